@@ -1,0 +1,72 @@
+// Bits of a 16-bit number: the few operations that labels, blocks and lifts are made of, by shifts and masks. Each promises a definition of specs/
+// and the range that its callers need; no caller looks at how it is found.
+
+ghost use mathlib.Core.Path.{_≡_};
+ghost use Prim.Native.Nat.{_<_};
+ghost use lib.Bits.{bitXor};
+ghost use lib.Count.{ones};
+ghost use Rattle.bits.specs.Bits.{log2, lowestOne, clearBelow, bitsBelow, IsBelow};
+
+// The place of the highest one bit of x, which is log x to base 2, rounded down; 0 for 0.
+pub fn log2(x: u16) -> u16
+    ensures { λ r. ⌜ IsBelow (log2 x) 16 r ⌝ }
+{
+    let mut y = x;
+    let mut r: u16 = 0;
+    if 256 <= y {
+        y = y >> 8;
+        r = 8;
+    }
+    if 16 <= y {
+        y = y >> 4;
+        r = r + 4;
+    }
+    if 4 <= y {
+        y = y >> 2;
+        r = r + 2;
+    }
+    if 2 <= y {
+        r = r + 1;
+    }
+    r
+}
+
+// The lowest one bit of x, as a number; 0 for 0.
+pub fn lowest_one(x: u16) -> u16
+    ensures { λ r. ⌜ r ≡ lowestOne x ⌝ }
+{
+    if x == 0 {
+        return 0;
+    }
+    x - (x & (x - 1))
+}
+
+// How many bits of x are one.
+pub fn count_ones(x: u16) -> u16
+    ensures { λ r. ⌜ IsBelow (ones x) 17 r ⌝ }
+{
+    u16::count_ones(x) as u16
+}
+
+// x with the bits below place i cleared.
+pub fn clear_below(x: u16, i: u16) -> u16
+    requires { ⌜ i < 16 ⌝ }
+    ensures { λ r. ⌜ r ≡ clearBelow i x ⌝ }
+{
+    (x >> i) << i
+}
+
+// The bits of x below place i.
+pub fn bits_below(x: u16, i: u16) -> u16
+    requires { ⌜ i < 16 ⌝ }
+    ensures { λ r. ⌜ r ≡ bitsBelow i x ⌝ }
+{
+    x & ((1 << i) - 1)
+}
+
+// The bits in which x and y differ.
+pub fn xor(x: u16, y: u16) -> u16
+    ensures { λ r. ⌜ r ≡ bitXor x y ⌝ }
+{
+    x ^ y
+}

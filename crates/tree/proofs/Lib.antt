@@ -1,0 +1,5 @@
+pub mod Scans
+pub mod Pigeonhole
+pub mod Climbs
+pub mod Trees
+pub mod Known

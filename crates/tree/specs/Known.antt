@@ -1,0 +1,98 @@
+-- Document 01's "Known sheets": the cases marked P, gathered in one list. A case is a list of numbers that the definitions give, and
+-- the list that the document states; `proofs/Known.antt` has the one proof that they agree.
+-- Assumes nothing.
+use Prim.Native.Nat.{ℕ, suc}
+use mathlib.Core.List.{List, [], _∷_, _++_, map}
+use lib.ListN.{length}
+use Rattle.tree.specs.declared.Refusal.{Refusal}
+use Rattle.tree.specs.declared.Refusal.the-variants.{Empty, TooLarge, WrongLength, ParentOutOfRange, NoRoot, SecondRoot, Cycle, StaleTable, NothingListed, NodeOutOfRange, NoCommonAncestor, MalformedLine}
+use Rattle.tree.specs.declared.Outcome.{Outcome}
+use Rattle.tree.specs.declared.Outcome.the-variants.{Accepted, Refused}
+use Rattle.tree.specs.Scan.{tabulate}
+use Rattle.tree.specs.Lca.{lca}
+use Rattle.tree.specs.Verdict.{Verdict, accepted, refused, numberOf, verdictOf}
+use Rattle.tree.specs.Tests.{verdict, sheetTests}
+use Rattle.tree.specs.Preorder.{preorderNumber, size, tour}
+use Rattle.tree.specs.Buffers.{none, labelCells, tourCells, liftCells}
+use Rattle.tree.specs.Labels.{inlabel, ascendant, head, labelTable}
+use Rattle.tree.specs.Tables.{Lent, own}
+use Rattle.tree.specs.Routes.{byLabels, byTour}
+use Rattle.tree.specs.Trail.{trail, rowCells, byLifts, lifts, liftCount}
+
+-- what the definitions give, and what the document states
+pub record Case : Type 0 where
+  pub given : List ℕ
+  pub stated : List ℕ
+
+-- parts 0 to 6 of the document's example
+abbrev pub seven : List ℕ
+seven = 0 ∷ 0 ∷ 0 ∷ 1 ∷ 1 ∷ 2 ∷ 5 ∷ []
+
+-- a column of it
+abbrev sevenParts : (ℕ → ℕ) → List ℕ
+sevenParts column = tabulate column 7
+
+-- a verdict as its number and place, 0 and 0 where the call is accepted
+abbrev shown : Verdict → List ℕ
+shown accepted = 0 ∷ 0 ∷ []
+shown (refused number place) = number ∷ place ∷ []
+
+-- a sheet whose tests give a number at a place, as does the case of the enum
+abbrev checked : List ℕ → Outcome → ℕ → ℕ → Case
+checked s outcome number place = record {
+  given = shown (verdict (sheetTests s 0)) ++ shown (verdictOf outcome);
+  stated = number ∷ place ∷ number ∷ place ∷ [];
+}
+
+-- a pair of the seven parts whose carrier, by its definition and by each route's rule, is c
+abbrev pairGives : ℕ → ℕ → ℕ → Case
+pairGives x y c = record {
+  given = lca seven (x ∷ y ∷ []) ∷ byLabels (own seven) x y ∷ byTour (own seven) x y ∷ byLifts (own seven) x y ∷ [];
+  stated = c ∷ c ∷ c ∷ c ∷ [];
+}
+
+-- its lifts, by the trail's length and by the sum of ones
+abbrev pairLifts : ℕ → ℕ → ℕ → Case
+pairLifts x y count = record {
+  given = lifts (own seven) x y ∷ liftCount seven x y ∷ [];
+  stated = count ∷ count ∷ [];
+}
+
+-- its trail's rows
+abbrev pairRows : ℕ → ℕ → List ℕ → Case
+pairRows x y cells = record { given = rowCells (trail (own seven) x y); stated = cells }
+
+unfoldable pub cases : List Case
+cases =
+    -- "parts 0 to 6 above: PREORDER 1 2 5 3 4 6 7; SIZE 7 3 3 1 1 2 1; INLABEL 4 4 6 3 4 6 7; ASCENDANT 4 4 6 5 4 6 7"
+    record { given = sevenParts (preorderNumber seven); stated = 1 ∷ 2 ∷ 5 ∷ 3 ∷ 4 ∷ 6 ∷ 7 ∷ [] }
+    ∷ record { given = sevenParts (size seven); stated = 7 ∷ 3 ∷ 3 ∷ 1 ∷ 1 ∷ 2 ∷ 1 ∷ [] }
+    ∷ record { given = sevenParts (inlabel seven); stated = 4 ∷ 4 ∷ 6 ∷ 3 ∷ 4 ∷ 6 ∷ 7 ∷ [] }
+    ∷ record { given = sevenParts (ascendant seven); stated = 4 ∷ 4 ∷ 6 ∷ 5 ∷ 4 ∷ 6 ∷ 7 ∷ [] }
+    -- "its HEAD: none none 3 0 none 2 6"
+    ∷ record { given = sevenParts (λ i. head seven (suc i)); stated = none ∷ none ∷ 3 ∷ 0 ∷ none ∷ 2 ∷ 6 ∷ [] }
+    -- "its E: 0 1 3 1 4 1 0 2 5 6 5 2 0"
+    ∷ record { given = tour seven; stated = 0 ∷ 1 ∷ 3 ∷ 1 ∷ 4 ∷ 1 ∷ 0 ∷ 2 ∷ 5 ∷ 6 ∷ 5 ∷ 2 ∷ 0 ∷ [] }
+    -- "its tables have 42, 72 and 21 cells"
+    ∷ record { given = length (own seven .label) ∷ length (own seven .tour) ∷ length (own seven .lift) ∷ []; stated = 42 ∷ 72 ∷ 21 ∷ [] }
+    ∷ record { given = labelCells 7 ∷ tourCells 7 ∷ liftCells 7 ∷ []; stated = 42 ∷ 72 ∷ 21 ∷ [] }
+    -- "pair 6 6 gives 6, 0 lifts"
+    ∷ pairGives 6 6 6
+    ∷ pairLifts 6 6 0
+    -- "pair 0 6 gives 0, 2 lifts, rows (0,2), (0,0)"
+    ∷ pairGives 0 6 0
+    ∷ pairLifts 0 6 2
+    ∷ pairRows 0 6 (0 ∷ 2 ∷ 0 ∷ 0 ∷ [])
+    -- "pair 3 6 has rows (3,5), (1,2), (0,0)"
+    ∷ pairRows 3 6 (3 ∷ 5 ∷ 1 ∷ 2 ∷ 0 ∷ 0 ∷ [])
+    -- "pair 5 6 gives 5"
+    ∷ pairGives 5 6 5
+    -- "sheet 0 is accepted, label cells 1 1 0 1 1 0. Sheet 1 1 is accepted"
+    ∷ checked (0 ∷ []) Accepted 0 0
+    ∷ record { given = labelTable (0 ∷ []); stated = 1 ∷ 1 ∷ 0 ∷ 1 ∷ 1 ∷ 0 ∷ [] }
+    ∷ checked (1 ∷ 1 ∷ []) Accepted 0 0
+    -- "1 0 is refused 5", "0 1 is refused 6 at 1", "0 2 1 is refused 7 at 1"
+    ∷ checked (1 ∷ 0 ∷ []) (Refused NoRoot) 5 0
+    ∷ checked (0 ∷ 1 ∷ []) (Refused (SecondRoot 1)) 6 1
+    ∷ checked (0 ∷ 2 ∷ 1 ∷ []) (Refused (Cycle 1)) 7 1
+    ∷ []

@@ -1,0 +1,15 @@
+pub mod Scan
+pub mod Tree
+pub mod Lca
+pub mod Verdict
+pub mod Tests
+pub mod Buffers
+pub mod Preorder
+pub mod Labels
+pub mod Tour
+pub mod Lifts
+pub mod Tables
+pub mod Routes
+pub mod Trail
+pub mod Sharing
+pub mod Known

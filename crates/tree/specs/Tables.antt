@@ -1,0 +1,22 @@
+-- A sheet with the tables that are lent with it, and a sheet's own tables.
+-- Assumes nothing.
+use Prim.Native.Nat.{ℕ}
+use mathlib.Core.List.{List, _++_}
+use Rattle.tree.specs.Labels.{labelTable}
+use Rattle.tree.specs.Tour.{tourTable}
+use Rattle.tree.specs.Lifts.{liftTable}
+
+-- "A call that is lent tables is lent all three"
+pub record Lent : Type 0 where
+  pub parents : List ℕ
+  pub label : List ℕ
+  pub tour : List ℕ
+  pub lift : List ℕ
+
+-- "Its own tables hold in every cell what is defined .. from that sheet"
+abbrev pub own : List ℕ → Lent
+own s = record { parents = s; label = labelTable s; tour = tourTable s; lift = liftTable s }
+
+-- "the lent tables end to end in buffer order"
+abbrev pub endToEnd : Lent → List ℕ
+endToEnd t = t .label ++ (t .tour ++ t .lift)

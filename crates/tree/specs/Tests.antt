@@ -1,0 +1,82 @@
+-- The operator's table (document 01, "Numbers on the operator's screen"): its rows 1 to 11 as data, and the first that fails.
+-- Row 12, "illegible", is about lines of text, and stands with the program's forms.
+-- Assumes nothing.
+use Prim.Native.Nat.{ℕ}
+use mathlib.Core.Bool.{Bool, cond, not, _&&_}
+use mathlib.Core.List.{List, [], _∷_}
+use lib.Dec.{leb, ltb, eqb}
+use lib.ListN.{length, getD}
+use Rattle.tree.specs.Scan.{least}
+use Rattle.tree.specs.Tree.{parent, climb, isRoot, rootOf}
+use Rattle.tree.specs.Lca.{isCommon}
+use Rattle.tree.specs.Verdict.{Verdict, accepted, refused}
+use Rattle.tree.specs.Tables.{Lent, own, endToEnd}
+
+-- a row of the table: its number, whether the call's input passes, and the place of the refusal where it does not
+pub record Test : Type 0 where
+  pub number : ℕ
+  pub passes : Bool
+  pub place : ℕ
+
+-- "Tests run in this order .. and each is given only on its condition": the first that fails refuses
+unfoldable pub verdict : List Test → Verdict
+verdict [] = accepted
+verdict (t ∷ ts) = let later = verdict ts in cond (t .passes) later (refused (t .number) (t .place))
+
+-- a test that fails where some number below n is bad, at the lowest
+abbrev pub lowestBad : ℕ → (ℕ → Bool) → ℕ → Test
+lowestBad number bad n = record { number = number; passes = eqb (least bad n) n; place = least bad n }
+
+-- 1 "bare": n is 0
+unfoldable pub bare : List ℕ → Test
+bare s = record { number = 1; passes = ltb 0 (length s); place = 0 }
+
+-- 2 "oversize": n above the limit
+unfoldable pub oversize : ℕ → List ℕ → Test
+oversize limit s = record { number = 2; passes = leb (length s) limit; place = 0 }
+
+-- 3 "misfit": a lent buffer hasn't its exact length, at the lowest buffer. 0 says that all fit
+unfoldable pub misfit : ℕ → Test
+misfit buffer = record { number = 3; passes = eqb buffer 0; place = buffer }
+
+-- 4 "off sheet": an entry is n or more, at the lowest such part
+unfoldable pub offSheet : List ℕ → Test
+offSheet s = lowestBad 4 (λ v. leb (length s) (parent s v)) (length s)
+
+-- 5 "rootless": no part names itself
+unfoldable pub rootless : List ℕ → Test
+rootless s = record { number = 5; passes = ltb (rootOf s) (length s); place = 0 }
+
+-- 6 "second root": two or more name themselves, at the second lowest of them
+unfoldable pub secondRoot : List ℕ → Test
+secondRoot s = lowestBad 6 (λ v. isRoot s v && ltb (rootOf s) v) (length s)
+
+-- 7 "loop": a part's climb never meets the root, at the lowest such part. A climb that has not met it after n steps never does
+unfoldable pub cycle : List ℕ → Test
+cycle s = lowestBad 7 (λ v. not (isRoot s (climb s (length s) v))) (length s)
+
+-- 8 "stale": a cell of a lent table isn't this sheet's, at the first such cell from 0, the lent tables end to end
+unfoldable pub stale : Lent → Test
+stale t =
+    let mine = endToEnd (own (t .parents)) in
+    lowestBad 8 (λ i. not (eqb (getD (endToEnd t) i 0) (getD mine i 0))) (length mine)
+
+-- 9 "nothing listed": no pair or part given
+unfoldable pub nothingListed : List ℕ → Test
+nothingListed question = record { number = 9; passes = ltb 0 (length question); place = 0 }
+
+-- 10 "no such part": a listed number is n or more, at the first such position, from 0
+unfoldable pub noSuchPart : List ℕ → List ℕ → Test
+noSuchPart s question = lowestBad 10 (λ i. leb (length s) (getD question i 0)) (length question)
+
+-- 11 "adrift": listed parts have no common carrier
+unfoldable pub adrift : List ℕ → List ℕ → Test
+adrift s question = record { number = 11; passes = ltb (least (isCommon s question) (length s)) (length s); place = 0 }
+
+-- "n is 1 to 16,384 in the library"
+abbrev pub limit : ℕ
+limit = 16384
+
+-- the tests of a sheet, 1 to 7, of a call whose lowest buffer that does not fit is `buffer`
+abbrev pub sheetTests : List ℕ → ℕ → List Test
+sheetTests s buffer = bare s ∷ oversize limit s ∷ misfit buffer ∷ offSheet s ∷ rootless s ∷ secondRoot s ∷ cycle s ∷ []

@@ -1,0 +1,38 @@
+-- What a call answers: the operator's number and place. One definition for each enum of `src/` gives what document 01 says of
+-- each of its cases. Assumes nothing.
+use Prim.Native.Nat.{ℕ}
+use Rattle.tree.specs.declared.Refusal.{Refusal}
+use Rattle.tree.specs.declared.Refusal.the-variants.{Empty, TooLarge, WrongLength, ParentOutOfRange, NoRoot, SecondRoot, Cycle, StaleTable, NothingListed, NodeOutOfRange, NoCommonAncestor, MalformedLine}
+use Rattle.tree.specs.declared.Outcome.{Outcome}
+use Rattle.tree.specs.declared.Outcome.the-variants.{Accepted, Refused}
+
+-- "A refusal carries a number and a place"
+pub data Verdict : Type 0 where
+  accepted : Verdict
+  refused : ℕ → ℕ → Verdict
+
+-- the number and the place of each refusal, as the operator's table has them
+abbrev pub numbered : Refusal → ℕ × ℕ
+numbered Empty = (1, 0)
+numbered TooLarge = (2, 0)
+numbered (WrongLength buffer) = (3, buffer)
+numbered (ParentOutOfRange part) = (4, part)
+numbered NoRoot = (5, 0)
+numbered (SecondRoot part) = (6, part)
+numbered (Cycle part) = (7, part)
+numbered (StaleTable cell) = (8, cell)
+numbered NothingListed = (9, 0)
+numbered (NodeOutOfRange position) = (10, position)
+numbered NoCommonAncestor = (11, 0)
+numbered (MalformedLine line) = (12, line)
+
+abbrev pub numberOf : Refusal → ℕ
+numberOf r = numbered r .0
+
+abbrev pub placeOf : Refusal → ℕ
+placeOf r = numbered r .1
+
+-- a call that was accepted, or the number and the place of its refusal
+abbrev pub verdictOf : Outcome → Verdict
+verdictOf Accepted = accepted
+verdictOf (Refused r) = refused (numberOf r) (placeOf r)
