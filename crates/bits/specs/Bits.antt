@@ -1,7 +1,7 @@
 -- Numbers as rows of binary digits: the definitions that the contracts of this crate cite.
 -- What they are to xor, and and the count of ones is the toolchain's: `bitXor`, `bitAnd` of `lib.Bits`, `ones` of `lib.Count`.
 -- Assumes nothing.
-use Prim.Native.Nat.{ℕ, zero, suc, _+_, _*_, _/_, _%_, _^_, _<_}
+use Prim.Native.Nat.{ℕ, zero, suc, _*_, _/_, _%_, _^_, _<_}
 use mathlib.Core.Path.{_≡_}
 use mathlib.Core.Bool.{cond}
 use lib.Dec.{ltb, eqb}

@@ -2,4 +2,11 @@ pub mod Scans
 pub mod Pigeonhole
 pub mod Climbs
 pub mod Trees
+pub mod Lcas
+pub mod Precedes
+pub mod Orders
+pub mod PreorderList
+pub mod Preorders
+pub mod Verdicts
+pub mod Acceptance
 pub mod Known

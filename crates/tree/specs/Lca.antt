@@ -1,11 +1,15 @@
 -- The lowest common ancestor of a list of parts: document 01's "carrier". By its property, and found by a plain climber.
 -- A pair's is that of the list of its two parts. Assumes nothing.
-use Prim.Native.Nat.{ℕ}
+use Prim.Native.Nat.{ℕ, _<_}
 use mathlib.Core.Bool.{Bool}
 use mathlib.Core.List.{List, [], _∷_, List·Memᴰ}
 use lib.ListN.{length}
 use Rattle.tree.specs.Scan.{least, every}
 use Rattle.tree.specs.Tree.{climb, Ancestor, isAncestor}
+
+-- a list of parts: each number listed is below n
+abbrev pub Parts : List ℕ → List ℕ → Type 0
+Parts s xs = (x : ℕ) → List·Memᴰ x xs → x < length s
 
 -- c carries each part of the list
 abbrev pub Common : List ℕ → List ℕ → ℕ → Type 0

@@ -2,7 +2,7 @@
 -- Assumes nothing.
 use Prim.Native.Nat.{ℕ, zero, suc, _<_}
 use mathlib.Core.Path.{_≡_}
-use mathlib.Core.Bool.{Bool}
+use mathlib.Core.Bool.{Bool, true}
 use mathlib.Core.List.{List}
 use lib.Dec.{eqb, ltb}
 use lib.ListN.{length, getD}
@@ -33,6 +33,11 @@ isRoot s v = eqb (parent s v) v
 -- the lowest part that names itself; n where there is none
 unfoldable pub rootOf : List ℕ → ℕ
 rootOf s = least (isRoot s) (length s)
+
+-- a climb from v meets the root
+pub record MeetsRoot (s : List ℕ) (v : ℕ) : Type 0 where
+  pub steps : ℕ
+  pub meets : isRoot s (climb s steps v) ≡ true
 
 -- "LEVEL is the number of steps to the root"; n where fewer than n steps do not meet it
 unfoldable pub level : List ℕ → ℕ → ℕ

@@ -1,0 +1,125 @@
+-- A sheet is accepted exactly if it is one rooted tree of at most 16,384 parts.
+-- Assumes nothing.
+use Prim.Native.Nat.{ℕ, _-_, _≤_, _<_}
+use native.Mathlib.Nat.{le-antisymm}
+use native.Mathlib.Omega.{arith}
+use mathlib.Core.Path.{_≡_, refl, sym, ap, _∙_}
+use mathlib.Core.Logic.{_≢_, _↔_}
+use mathlib.Core.Bool.{Bool, true, false, not, _&&_, true≢false, false≢true}
+use mathlib.Core.List.{List, [], _∷_}
+use borrow.Author.Tests.{lt-ltb, le-ltb, le-leb, lt-leb, eq-eqb, ltb-true, ltb-false, leb-false, leb-true, eqb-true, not-true, not-false}
+use lib.Dec.{leb, ltb}
+use lib.ListN.{length}
+use Rattle.tree.specs.Scan.{least}
+use Rattle.tree.specs.Tree.{parent, climb, Ancestor, isRoot, rootOf, MeetsRoot, level, Tree}
+use Rattle.tree.specs.Verdict.{accepted}
+use Rattle.tree.specs.Tests.{verdict, lowestBad, bare, oversize, misfit, offSheet, rootless, secondRoot, cycle, limit, sheetTests}
+use Rattle.tree.proofs.Scans.{by-test, least-here, least-before, least-at-most, least-none}
+use Rattle.tree.proofs.Climbs.{Inside, climb-split, climb-stays, climb-inside, met-soon}
+use Rattle.tree.proofs.Trees.{is-root, root-is, root-found}
+use Rattle.tree.proofs.Verdicts.{passed-accepted, accepted-passed}
+
+-- ---- a test for the lowest bad number
+
+pub none-bad : (number : ℕ) (bad : ℕ → Bool) (n : ℕ) → ((i : ℕ) → i < n → bad i ≡ false) → lowestBad number bad n .passes ≡ true
+none-bad number bad n h = eq-eqb _ _ (least-none bad n h)
+
+pub no-bad : (number : ℕ) (bad : ℕ → Bool) (n : ℕ) → lowestBad number bad n .passes ≡ true → (i : ℕ) → i < n → bad i ≡ false
+no-bad number bad n e i h = let all : least bad n ≡ n = eqb-true _ _ e in least-before bad n i (omega arith)
+
+-- ---- "a part's climb never meets the root"
+
+-- a climb that meets the root has met it after n steps
+pub meets-by-n : (s : List ℕ) → Inside s → (v : ℕ) → v < length s → MeetsRoot s v → isRoot s (climb s (length s) v) ≡ true
+meets-by-n s inside v h m =
+    let p : ℕ → Bool = λ k. isRoot s (climb s k v) in
+    let soon : least p (length s) < length s = met-soon s inside (isRoot s) v (m .steps) h (m .meets) in
+    let k : ℕ = least p (length s) in
+    let there : parent s (climb s k v) ≡ climb s k v = root-is s (climb s k v) (least-here p (length s) soon) in
+    let same : climb s (length s) v ≡ climb s k v =
+        climb-split s k (length s - k) (length s) v (omega arith) ∙ climb-stays s (length s - k) (climb s k v) there in
+    is-root s (climb s (length s) v) (ap (parent s) same ∙ there ∙ sym same)
+
+-- on a tree every climb does
+pub tree-meets : {s : List ℕ} (t : Tree s) (v : ℕ) → v < length s → MeetsRoot s v
+tree-meets {s} t v h =
+    let up = t .reach v h in
+    record { steps = up .steps; meets = ap (isRoot s) (up .reaches) ∙ is-root s (t .root) (t .root-itself) }
+
+-- ---- what each test of a sheet says where it passes
+
+-- 4: every entry is below n
+pub entries-inside : (s : List ℕ) → offSheet s .passes ≡ true → Inside s
+unfolding offSheet
+entries-inside s e v h = leb-false (length s) (parent s v) (no-bad 4 _ (length s) e v h)
+
+pub inside-passes : (s : List ℕ) → Inside s → offSheet s .passes ≡ true
+unfolding offSheet
+inside-passes s inside = none-bad 4 _ (length s) (λ v h. lt-leb (length s) (parent s v) (inside v h))
+
+-- 5: some part names itself
+pub root-below : (s : List ℕ) → rootless s .passes ≡ true → rootOf s < length s
+unfolding rootless
+root-below s e = ltb-true _ _ e
+
+pub root-of-itself : (s : List ℕ) → rootOf s < length s → parent s (rootOf s) ≡ rootOf s
+unfolding rootOf
+root-of-itself s h = root-is s _ (least-here (isRoot s) (length s) h)
+
+-- 6: no other part does
+pub root-alone : (s : List ℕ) → secondRoot s .passes ≡ true → (v : ℕ) → v < length s → parent s v ≡ v → v ≡ rootOf s
+unfolding secondRoot rootOf
+root-alone s e v h self =
+    let here : isRoot s v ≡ true = is-root s v self in
+    let not-above : ltb (rootOf s) v ≡ false = rw here at (no-bad 6 _ (length s) e v h) in
+    le-antisymm (ltb-false _ _ not-above) (least-at-most (isRoot s) (length s) v here)
+
+pub alone-passes : (s : List ℕ) → ((v : ℕ) → v < length s → parent s v ≡ v → v ≡ rootOf s) → secondRoot s .passes ≡ true
+unfolding secondRoot
+alone-passes s only =
+    none-bad 6 _ (length s)
+    (λ v h. by-test (isRoot s v) (λ e. let same = only v h (root-is s v e) in rw e (le-ltb (rootOf s) v (omega arith))) (λ e. rw e))
+
+-- 7: every climb meets the root
+pub all-meet : (s : List ℕ) → cycle s .passes ≡ true → (v : ℕ) → v < length s → MeetsRoot s v
+unfolding cycle
+all-meet s e v h = record { steps = length s; meets = not-false _ (no-bad 7 _ (length s) e v h) }
+
+pub meet-passes : (s : List ℕ) → Inside s → ((v : ℕ) → v < length s → MeetsRoot s v) → cycle s .passes ≡ true
+unfolding cycle
+meet-passes s inside all = none-bad 7 _ (length s) (λ v h. ap not (meets-by-n s inside v h (all v h)))
+
+-- ---- accepted exactly if it is one rooted tree
+
+tree-of : (s : List ℕ) → Inside s → rootOf s < length s → ((v : ℕ) → v < length s → parent s v ≡ v → v ≡ rootOf s)
+    → ((v : ℕ) → v < length s → MeetsRoot s v) → Tree s
+tree-of s inside below only meet = record {
+  inside = inside;
+  root = rootOf s;
+  root-inside = below;
+  root-itself = root-of-itself s below;
+  root-only = only;
+  reach = λ v h.
+    let m = meet v h in
+    let u = climb s (m .steps) v in
+    record { steps = m .steps; reaches = only u (climb-inside s inside (m .steps) v h) (root-is s u (m .meets)) };
+}
+
+accepted-tree : (s : List ℕ) → verdict (sheetTests s 0) ≡ accepted → Tree s × (length s ≤ limit)
+unfolding oversize
+accepted-tree s e =
+    let (_, (small, (_, (inside, (some, (alone, (meet, _))))))) = accepted-passed (sheetTests s 0) e in
+    (tree-of s (entries-inside s inside) (root-below s some) (root-alone s alone) (all-meet s meet), leb-true _ _ small)
+
+tree-accepted : (s : List ℕ) → Tree s → length s ≤ limit → verdict (sheetTests s 0) ≡ accepted
+unfolding bare oversize misfit rootless
+tree-accepted s t h =
+    let some : 0 < length s = omega (arith, t .root-inside) in
+    let root : rootOf s < length s = rw (root-found t) at (t .root-inside) in
+    let alone = alone-passes s (λ v b e. t .root-only v b e ∙ root-found t) in
+    let meet = meet-passes s (t .inside) (tree-meets t) in
+    passed-accepted (sheetTests s 0)
+    (lt-ltb _ _ some, (le-leb _ _ h, (refl, (inside-passes s (t .inside), (lt-ltb _ _ root, (alone, (meet, tt)))))))
+
+pub accepted-exactly : (s : List ℕ) → (verdict (sheetTests s 0) ≡ accepted) ↔ (Tree s × (length s ≤ limit))
+accepted-exactly s = (accepted-tree s, λ p. tree-accepted s (p .0) (p .1))

@@ -1,0 +1,78 @@
+-- Every list of one or more parts of a tree has exactly one lowest common ancestor, and the plain climber finds it.
+-- Assumes nothing.
+use Prim.Native.Nat.{ℕ, _-_, _≤_, _<_}
+use native.Mathlib.Nat.{not-suc-le-zero}
+use native.Mathlib.Omega.{arith}
+use mathlib.Core.Path.{_≡_, refl, sym, ap, _∙_}
+use mathlib.Core.Bool.{Bool, true, false, _&&_, false≢true}
+use mathlib.Core.Logic.{⊎-elim}
+use mathlib.Core.List.{List, [], _∷_, List·Memᴰ, List·Memᴰ·head, List·Memᴰ·tail, List·Memᴰ·not-nil, List·Memᴰ·cases-cons}
+use lib.ListN.{length}
+use Rattle.tree.specs.Scan.{least, every}
+use Rattle.tree.specs.Tree.{climb, Ancestor, isAncestor, level, Tree}
+use Rattle.tree.specs.Lca.{Parts, Common, Lca, isCommon, lca}
+use Rattle.tree.proofs.Scans.{by-test, least-here, least-at-most}
+use Rattle.tree.proofs.Climbs.{climb-split, ancestor-climb, ancestor-inside, met-soon, ancestor-test, test-ancestor}
+use Rattle.tree.proofs.Trees.{climb-level, ancestor-antisym}
+
+-- ---- the test of a whole list
+
+every-true : (p : ℕ → Bool) (xs : List ℕ) → ((x : ℕ) → List·Memᴰ x xs → p x ≡ true) → every p xs ≡ true
+unfolding every
+every-true p [] h = refl
+every-true p (x ∷ xs) h = rw (h x (List·Memᴰ·head refl)) (every-true p xs (λ y m. h y (List·Memᴰ·tail m)))
+
+true-every : (p : ℕ → Bool) (xs : List ℕ) → every p xs ≡ true → (x : ℕ) → List·Memᴰ x xs → p x ≡ true
+unfolding every
+true-every p [] e x m = absurd (List·Memᴰ·not-nil m)
+true-every p (y ∷ ys) e x m =
+    let rest = true-every p ys in
+    by-test (p y)
+    (λ here. ⊎-elim (λ q. ap p q ∙ here) (λ n. rest (rw here at e) x n) (List·Memᴰ·cases-cons m))
+    (λ none. absurd (false≢true (rw none at e)))
+
+module _ {s : List ℕ} (t : Tree s) where
+  common-test : (xs : List ℕ) (c : ℕ) → Parts s xs → Common s xs c → isCommon s xs c ≡ true
+  unfolding isCommon
+  common-test xs c parts common = every-true (isAncestor s c) xs (λ x m. ancestor-test (t .inside) (parts x m) (common x m))
+
+  test-common : (xs : List ℕ) (c : ℕ) → isCommon s xs c ≡ true → Common s xs c
+  unfolding isCommon
+  test-common xs c e x m = test-ancestor s c x (true-every (isAncestor s c) xs e x m)
+
+  -- the root carries every part, so the climb from the first part meets a common carrier
+  climb-meets : (x : ℕ) (xs : List ℕ) → Parts s (x ∷ xs) → least (λ k. isCommon s (x ∷ xs) (climb s k x)) (length s) < length s
+  climb-meets x xs parts =
+      let h = parts x (List·Memᴰ·head refl) in
+      met-soon s (t .inside) (isCommon s (x ∷ xs)) x (level s x) h
+      (ap (isCommon s (x ∷ xs)) (climb-level t x h) ∙ common-test (x ∷ xs) (t .root) parts (λ y m. t .reach y (parts y m)))
+
+  found : (x : ℕ) (xs : List ℕ) → Parts s (x ∷ xs) → Lca s (x ∷ xs) (lca s (x ∷ xs))
+  unfolding lca
+  found x xs parts =
+      let p : ℕ → Bool = λ k. isCommon s (x ∷ xs) (climb s k x) in
+      let k : ℕ = least p (length s) in
+      let first : List·Memᴰ x (x ∷ xs) = List·Memᴰ·head refl in
+      record {
+        common = test-common (x ∷ xs) (climb s k x) (least-here p (length s) (climb-meets x xs parts));
+        lowest = λ d c.
+          let up = c x first in
+          let test : p (up .steps) ≡ true = ap (isCommon s (x ∷ xs)) (up .reaches) ∙ common-test (x ∷ xs) d parts c in
+          let soon : k ≤ up .steps = least-at-most p (length s) (up .steps) test in
+          record { steps = up .steps - k; reaches = sym (climb-split s k (up .steps - k) (up .steps) x (omega arith)) ∙ up .reaches };
+      }
+
+  only : (x : ℕ) (xs : List ℕ) (c d : ℕ) → Parts s (x ∷ xs) → Lca s (x ∷ xs) c → Lca s (x ∷ xs) d → c ≡ d
+  only x xs c d parts p q =
+      let first : List·Memᴰ x (x ∷ xs) = List·Memᴰ·head refl in
+      let inside : (a : ℕ) → Common s (x ∷ xs) a → a < length s = λ a h. ancestor-inside (t .inside) (parts x first) (h x first) in
+      ancestor-antisym t (inside c (p .common)) (inside d (q .common)) (q .lowest c (p .common)) (p .lowest d (q .common))
+
+  -- the climber's answer is a lowest common ancestor, and there is no other
+  pub lca-found : (xs : List ℕ) → 0 < length xs → Parts s xs → Lca s xs (lca s xs)
+  lca-found [] h parts = absurd (not-suc-le-zero h)
+  lca-found (x ∷ xs) h parts = found x xs parts
+
+  pub lca-only : (xs : List ℕ) (c : ℕ) → 0 < length xs → Parts s xs → Lca s xs c → c ≡ lca s xs
+  lca-only [] c h parts p = absurd (not-suc-le-zero h)
+  lca-only (x ∷ xs) c h parts p = only x xs c (lca s (x ∷ xs)) parts p (found x xs parts)

@@ -1,0 +1,43 @@
+-- The first test that fails: a list of tests accepts exactly if each passes, and else gives the number and place of the first that does not.
+-- Assumes nothing.
+use Prim.Native.Nat.{ℕ}
+use mathlib.Core.Path.{_≡_, refl, sym, _∙_}
+use mathlib.Core.Bool.{true, false}
+use mathlib.Core.List.{List, [], _∷_, _++_}
+use native.Mathlib.Omega.{arith}
+use Rattle.tree.specs.Verdict.{Verdict, accepted, refused}
+use Rattle.tree.specs.Tests.{Test, verdict}
+use Rattle.tree.proofs.Scans.{by-test}
+
+-- each test of a list passes
+abbrev pub Passed : List Test → Type 0
+Passed [] = Unit {0}
+Passed (t ∷ ts) = (t .passes ≡ true) × Passed ts
+
+verdict-pass : (t : Test) (ts : List Test) → t .passes ≡ true → verdict (t ∷ ts) ≡ verdict ts
+unfolding verdict
+verdict-pass t ts e = rw e
+
+verdict-fail : (t : Test) (ts : List Test) → t .passes ≡ false → verdict (t ∷ ts) ≡ refused (t .number) (t .place)
+unfolding verdict
+verdict-fail t ts e = rw e
+
+pub passed-accepted : (ts : List Test) → Passed ts → verdict ts ≡ accepted
+unfolding verdict
+passed-accepted [] p = refl
+passed-accepted (t ∷ ts) p = verdict-pass t ts (p .0) ∙ passed-accepted ts (p .1)
+
+-- a verdict that accepts was given by tests that pass
+pub accepted-passed : (ts : List Test) → verdict ts ≡ accepted → Passed ts
+accepted-passed [] e = tt
+accepted-passed (t ∷ ts) e =
+    let rest = accepted-passed ts in
+    by-test (t .passes) (λ p. (p, rest (sym (verdict-pass t ts p) ∙ e)))
+    (λ p. let never : refused (t .number) (t .place) ≡ accepted = sym (verdict-fail t ts p) ∙ e in
+    let z : _≡_ {A = ℕ} 0 1 = cc in absurd (omega arith))
+
+-- the first test that fails, after others that pass, refuses
+pub first-refused : (before : List Test) (t : Test) (after : List Test) → Passed before → t .passes ≡ false
+    → verdict (before ++ t ∷ after) ≡ refused (t .number) (t .place)
+first-refused [] t after p e = verdict-fail t after e
+first-refused (b ∷ before) t after p e = verdict-pass b (before ++ t ∷ after) (p .0) ∙ first-refused before t after (p .1) e
