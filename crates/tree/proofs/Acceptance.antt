@@ -16,7 +16,8 @@ use Rattle.tree.specs.Verdict.{accepted}
 use Rattle.tree.specs.Tests.{verdict, lowestBad, bare, oversize, misfit, offSheet, rootless, secondRoot, cycle, limit, sheetTests}
 use Rattle.tree.proofs.Scans.{by-test, least-here, least-before, least-at-most, least-none}
 use Rattle.tree.proofs.Climbs.{Inside, climb-split, climb-stays, climb-inside, met-soon}
-use Rattle.tree.proofs.Trees.{is-root, root-is, root-found}
+use Rattle.tree.proofs.Roots.{is-root, root-is, root-of, no-second, second-none}
+use Rattle.tree.proofs.Trees.{root-found}
 use Rattle.tree.proofs.Verdicts.{passed-accepted, accepted-passed}
 
 -- ---- a test for the lowest bad number
@@ -37,7 +38,7 @@ meets-by-n s inside v h m =
     let k : ℕ = least p (length s) in
     let there : parent s (climb s k v) ≡ climb s k v = root-is s (climb s k v) (least-here p (length s) soon) in
     let same : climb s (length s) v ≡ climb s k v =
-        climb-split s k (length s - k) (length s) v (omega arith) ∙ climb-stays s (length s - k) (climb s k v) there in
+    climb-split s k (length s - k) (length s) v (omega arith) ∙ climb-stays s (length s - k) (climb s k v) there in
     is-root s (climb s (length s) v) (ap (parent s) same ∙ there ∙ sym same)
 
 -- on a tree every climb does
@@ -62,23 +63,10 @@ pub root-below : (s : List ℕ) → rootless s .passes ≡ true → rootOf s < l
 unfolding rootless
 root-below s e = ltb-true _ _ e
 
-pub root-of-itself : (s : List ℕ) → rootOf s < length s → parent s (rootOf s) ≡ rootOf s
-unfolding rootOf
-root-of-itself s h = root-is s _ (least-here (isRoot s) (length s) h)
-
 -- 6: no other part does
-pub root-alone : (s : List ℕ) → secondRoot s .passes ≡ true → (v : ℕ) → v < length s → parent s v ≡ v → v ≡ rootOf s
-unfolding secondRoot rootOf
-root-alone s e v h self =
-    let here : isRoot s v ≡ true = is-root s v self in
-    let not-above : ltb (rootOf s) v ≡ false = rw here at (no-bad 6 _ (length s) e v h) in
-    le-antisymm (ltb-false _ _ not-above) (least-at-most (isRoot s) (length s) v here)
-
-pub alone-passes : (s : List ℕ) → ((v : ℕ) → v < length s → parent s v ≡ v → v ≡ rootOf s) → secondRoot s .passes ≡ true
+pub root-alone : (s : List ℕ) → rootOf s < length s → secondRoot s .passes ≡ true → (v : ℕ) → v < length s → parent s v ≡ v → v ≡ rootOf s
 unfolding secondRoot
-alone-passes s only =
-    none-bad 6 _ (length s)
-    (λ v h. by-test (isRoot s v) (λ e. let same = only v h (root-is s v e) in rw e (le-ltb (rootOf s) v (omega arith))) (λ e. rw e))
+root-alone s below e = no-second s below (leb-true _ _ e)
 
 -- 7: every climb meets the root
 pub all-meet : (s : List ℕ) → cycle s .passes ≡ true → (v : ℕ) → v < length s → MeetsRoot s v
@@ -97,29 +85,30 @@ tree-of s inside below only meet = record {
   inside = inside;
   root = rootOf s;
   root-inside = below;
-  root-itself = root-of-itself s below;
+  root-itself = root-of s .here below;
   root-only = only;
   reach = λ v h.
-    let m = meet v h in
-    let u = climb s (m .steps) v in
-    record { steps = m .steps; reaches = only u (climb-inside s inside (m .steps) v h) (root-is s u (m .meets)) };
+      let m = meet v h in
+      let u = climb s (m .steps) v in
+      record { steps = m .steps; reaches = only u (climb-inside s inside (m .steps) v h) (root-is s u (m .meets)) };
 }
 
 accepted-tree : (s : List ℕ) → verdict (sheetTests s 0) ≡ accepted → Tree s × (length s ≤ limit)
 unfolding oversize
 accepted-tree s e =
     let (_, (small, (_, (inside, (some, (alone, (meet, _))))))) = accepted-passed (sheetTests s 0) e in
-    (tree-of s (entries-inside s inside) (root-below s some) (root-alone s alone) (all-meet s meet), leb-true _ _ small)
+    let below = root-below s some in
+    (tree-of s (entries-inside s inside) below (root-alone s below alone) (all-meet s meet), leb-true _ _ small)
 
 tree-accepted : (s : List ℕ) → Tree s → length s ≤ limit → verdict (sheetTests s 0) ≡ accepted
-unfolding bare oversize misfit rootless
+unfolding bare oversize misfit rootless secondRoot
 tree-accepted s t h =
     let some : 0 < length s = omega (arith, t .root-inside) in
     let root : rootOf s < length s = rw (root-found t) at (t .root-inside) in
-    let alone = alone-passes s (λ v b e. t .root-only v b e ∙ root-found t) in
+    let alone = second-none s root (λ v b e. t .root-only v b e ∙ root-found t) in
     let meet = meet-passes s (t .inside) (tree-meets t) in
     passed-accepted (sheetTests s 0)
-    (lt-ltb _ _ some, (le-leb _ _ h, (refl, (inside-passes s (t .inside), (lt-ltb _ _ root, (alone, (meet, tt)))))))
+    (lt-ltb _ _ some, (le-leb _ _ h, (refl, (inside-passes s (t .inside), (lt-ltb _ _ root, (le-leb _ _ alone, (meet, tt)))))))
 
 pub accepted-exactly : (s : List ℕ) → (verdict (sheetTests s 0) ≡ accepted) ↔ (Tree s × (length s ≤ limit))
 accepted-exactly s = (accepted-tree s, λ p. tree-accepted s (p .0) (p .1))

@@ -5,7 +5,7 @@ use mathlib.Core.List.{map, flatten}
 use lib.Count.{trailingZeros, ones, onesIn}
 use Rattle.bits.specs.Bits.{log2, log2In, rightmostZeros, lowestOne, clearBelow, bitsBelow}
 use Rattle.tree.specs.Scan.{least, leastFrom, count, tabulate, tabulateFrom, range, keep, every, best, bestFrom, position}
-use Rattle.tree.specs.Tree.{parent, climb, isAncestor, isRoot, rootOf, level}
+use Rattle.tree.specs.Tree.{parent, climb, isAncestor, isRoot, nextRoot, rootOf, level}
 use Rattle.tree.specs.Lca.{lca, isCommon}
 use Rattle.tree.specs.Tests.{verdict, bare, oversize, misfit, offSheet, rootless, secondRoot, cycle}
 use Rattle.tree.specs.Preorder.{preorderNumber, size, tour, isChild, eachChild, preorderIn, preorder, tourIn, firstVisit}
@@ -20,7 +20,7 @@ pub known : map (λ (c : Case). c .given) cases ≡ map (λ (c : Case). c .state
 unfolding trailingZeros ones onesIn flatten
     log2 log2In rightmostZeros lowestOne clearBelow bitsBelow
     least leastFrom count tabulate tabulateFrom range keep every best bestFrom position
-    parent climb isAncestor isRoot rootOf level lca isCommon
+    parent climb isAncestor isRoot nextRoot rootOf level lca isCommon
     verdict bare oversize misfit offSheet rootless secondRoot cycle
     preorderNumber size tour isChild eachChild preorderIn preorder tourIn firstVisit
     mostZeros inlabel ascendantIn ascendant head labelTable tourTable sparse sparseRows liftTable lift

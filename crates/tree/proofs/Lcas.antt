@@ -56,10 +56,10 @@ module _ {s : List ℕ} (t : Tree s) where
       record {
         common = test-common (x ∷ xs) (climb s k x) (least-here p (length s) (climb-meets x xs parts));
         lowest = λ d c.
-          let up = c x first in
-          let test : p (up .steps) ≡ true = ap (isCommon s (x ∷ xs)) (up .reaches) ∙ common-test (x ∷ xs) d parts c in
-          let soon : k ≤ up .steps = least-at-most p (length s) (up .steps) test in
-          record { steps = up .steps - k; reaches = sym (climb-split s k (up .steps - k) (up .steps) x (omega arith)) ∙ up .reaches };
+            let up = c x first in
+            let test : p (up .steps) ≡ true = ap (isCommon s (x ∷ xs)) (up .reaches) ∙ common-test (x ∷ xs) d parts c in
+            let soon : k ≤ up .steps = least-at-most p (length s) (up .steps) test in
+            record { steps = up .steps - k; reaches = sym (climb-split s k (up .steps - k) (up .steps) x (omega arith)) ∙ up .reaches };
       }
 
   only : (x : ℕ) (xs : List ℕ) (c d : ℕ) → Parts s (x ∷ xs) → Lca s (x ∷ xs) c → Lca s (x ∷ xs) d → c ≡ d

@@ -1,12 +1,17 @@
 pub mod Scans
 pub mod Pigeonhole
 pub mod Climbs
+pub mod Roots
 pub mod Trees
 pub mod Lcas
 pub mod Precedes
 pub mod Orders
 pub mod PreorderList
 pub mod Preorders
+pub mod Bests
+pub mod Inlabels
 pub mod Verdicts
 pub mod Acceptance
+pub mod Places
+pub mod Answers
 pub mod Known

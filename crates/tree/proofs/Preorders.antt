@@ -48,7 +48,7 @@ module _ {s : List ℕ} (t : Tree s) where
         (λ e. absurd (precedes-irrefl t hx (subst (Precedes s x) (sym ey ∙ ap (λ (i : ℕ). getD o i 0) e ∙ ex) p)))
         (λ e.
         let back : Precedes s (getD o (position o y) 0) (getD o (position o x) 0) =
-            ordered-at (Precedes s) o ordered (position o y) (position o x) (omega arith) bx in
+        ordered-at (Precedes s) o ordered (position o y) (position o x) (omega arith) bx in
         absurd (precedes-asym t hx hy p (subst (λ (u : ℕ). Precedes s u x) ey (subst (Precedes s (getD o (position o y) 0)) ex back)))))
         (λ h. h)
 
@@ -61,9 +61,9 @@ module _ {s : List ℕ} (t : Tree s) where
       let root : rootOf s < length s = subst (λ (r : ℕ). r < length s) (root-found t) (t .root-inside) in
       let top : level s (rootOf s) ≡ 0 = ap (level s) (sym (root-found t)) ∙ level-root t in
       let part : (i : ℕ) → i < length o → getD o i 0 < length s =
-          λ i h. member-carried t (length s) (rootOf s) (getD o i 0) root (member-at o i h) .1 in
+      λ i h. member-carried t (length s) (rootOf s) (getD o i 0) root (member-at o i h) .1 in
       let listed : (v : ℕ) → v < length s → position o v < length o = λ v h.
-          member-position o v (carried-member t (length s) (rootOf s) v root h (omega arith) (subst (λ (r : ℕ). Ancestor s r v) (root-found t) (t .reach v h))) in
+      member-position o v (carried-member t (length s) (rootOf s) v root h (omega arith) (subst (λ (r : ℕ). Ancestor s r v) (root-found t) (t .reach v h))) in
       let ordered = preorder-ordered t (length s) (rootOf s) root in
       let before = stands-before o part ordered in
       let first : getD o 0 0 ≡ t .root = preorder-first s (length s) (rootOf s) (omega arith) ∙ sym (root-found t) in
@@ -74,8 +74,8 @@ module _ {s : List ℕ} (t : Tree s) where
         root-first = ap (parent s) first ∙ t .root-itself ∙ sym first;
         ancestor-first = λ a v ha hv p q. before a v ha hv (listed a ha) (listed v hv) (carries p q);
         lower-first = λ a b x y ha hb e na nb l hx p hy q.
-          before x y hx hy (listed x hx) (listed y hy)
-          (beside a b (record { part-a = ha; part-b = hb; same = e; other-a = na; other-b = nb; lower = l }) p q);
+            before x y hx hy (listed x hx) (listed y hy)
+            (beside a b (record { part-a = ha; part-b = hb; same = e; other-a = na; other-b = nb; lower = l }) p q);
       }
 
   -- ---- and no other list does
@@ -124,7 +124,7 @@ module _ {s : List ℕ} (t : Tree s) where
   preorder-only o r =
       let u = preorder-meets in
       let same : length o ≡ length (preorder s) =
-          by-order (length o) (length (preorder s))
-          (λ h. by-order (length (preorder s)) (length o) (λ g. le-antisymm h g) (λ g. absurd (no-longer o (preorder s) r u g)))
-          (λ h. absurd (no-longer (preorder s) o u r h)) in
+      by-order (length o) (length (preorder s))
+      (λ h. by-order (length (preorder s)) (length o) (λ g. le-antisymm h g) (λ g. absurd (no-longer o (preorder s) r u g)))
+      (λ h. absurd (no-longer (preorder s) o u r h)) in
       ext-getD 0 o (preorder s) same (λ i h. agree-below o (preorder s) r u (length o) i h h (omega arith))

@@ -1,7 +1,7 @@
 -- Laws of `specs/Scan.antt`: what a search finds, and what a count, a list of values and a best member are.
 -- Assumes nothing.
 use Prim.Native.Nat.{ℕ, zero, suc, _+_, _≤_, _<_}
-use native.Mathlib.Nat.{le-refl, le-antisymm, add-zero, add-suc, suc-add, zero-add, le-of-suc-le-suc, not-suc-le-zero, lt-of-not-le}
+use native.Mathlib.Nat.{le-refl, le-antisymm, add-zero, add-suc, suc-add, le-of-suc-le-suc, not-suc-le-zero, lt-of-not-le, lt-suc-self}
 use native.Mathlib.Omega.{arith}
 use native.Mathlib.Decide.{decLe, decLt, ℕ-discrete}
 use mathlib.Core.Path.{_≡_, refl, sym, ap, _∙_, subst}
@@ -46,7 +46,7 @@ least-later p i k r e l = record {
   here = λ h. l .here (omega arith);
 }
 
-least-from : (p : ℕ → Bool) (i k : ℕ) → Least p i k (leastFrom p i k)
+pub least-from : (p : ℕ → Bool) (i k : ℕ) → Least p i k (leastFrom p i k)
 unfolding leastFrom
 least-from p i zero = record { from = le-refl i; to = omega arith; before = λ j a b. absurd (omega arith); here = λ h. absurd (omega arith) }
 least-from p i (suc k) =
@@ -114,6 +114,29 @@ count-pos p (suc n) v h e =
     by-equal v n
     (λ q. let here : p n ≡ true = ap p (sym q) ∙ e in rw here (omega arith))
     (λ q. let ih : 0 < count p n = count-pos p n v (omega arith) e in omega arith)
+
+-- tests that agree below n count the same
+pub count-same : (p q : ℕ → Bool) (n : ℕ) → ((j : ℕ) → j < n → q j ≡ p j) → count q n ≡ count p n
+unfolding count
+count-same p q zero h = refl
+count-same p q (suc n) h = rw (h n (lt-suc-self n), count-same p q n (λ j b. h j (omega arith)))
+
+-- one number fewer
+pub count-less : (p q : ℕ → Bool) (n i : ℕ) → i < n → ((j : ℕ) → j ≢ i → q j ≡ p j) → p i ≡ true → q i ≡ false → count q n < count p n
+unfolding count
+count-less p q zero i h same yes-p no-q = absurd (not-suc-le-zero h)
+count-less p q (suc n) i h same yes-p no-q =
+    let earlier = count-less p q n i in
+    by-equal i n
+    (λ e.
+    let yes-n : p n ≡ true = ap p (sym e) ∙ yes-p in
+    let no-n : q n ≡ false = ap q (sym e) ∙ no-q in
+    let below : count q n ≡ count p n = count-same p q n (λ j b. same j (λ g. absurd (omega arith))) in
+    rw (yes-n, no-n, below) (omega arith))
+    (λ e.
+    let at-n : q n ≡ p n = same n (λ g. e (sym g)) in
+    let ih : count q n < count p n = earlier (omega arith) same yes-p no-q in
+    rw at-n (omega arith))
 
 -- ---- lists of values
 

@@ -7,20 +7,12 @@ use mathlib.Core.Path.{_≡_, refl, sym, ap, _∙_, subst}
 use mathlib.Core.Logic.{_≢_}
 use mathlib.Core.Bool.{Bool, true, false, true≢false}
 use mathlib.Core.List.{List}
-use borrow.Author.Tests.{eq-eqb, eqb-true}
 use lib.ListN.{length}
 use Rattle.tree.specs.Scan.{least}
 use Rattle.tree.specs.Tree.{parent, climb, Ancestor, isAncestor, isRoot, rootOf, level, Tree}
-use Rattle.tree.proofs.Scans.{by-order, by-equal, least-here, least-before, least-at-most, least-found}
+use Rattle.tree.proofs.Scans.{by-order, least-here, least-at-most}
+use Rattle.tree.proofs.Roots.{is-root, root-is, root-of-found}
 use Rattle.tree.proofs.Climbs.{climb-zero, climb-one, climb-add, climb-suc, climb-split, climb-inside, climb-stays, ancestor-climb, met-soon}
-
-pub is-root : (s : List ℕ) (v : ℕ) → parent s v ≡ v → isRoot s v ≡ true
-unfolding isRoot
-is-root s v e = eq-eqb _ _ e
-
-pub root-is : (s : List ℕ) (v : ℕ) → isRoot s v ≡ true → parent s v ≡ v
-unfolding isRoot
-root-is s v e = eqb-true _ _ e
 
 level-here : (s : List ℕ) (v : ℕ) → level s v < length s → isRoot s (climb s (level s v) v) ≡ true
 unfolding level
@@ -50,15 +42,12 @@ module _ {s : List ℕ} (t : Tree s) where
   root-test v h e = t .root-only v h (root-is s v e)
 
   pub root-found : t .root ≡ rootOf s
-  unfolding rootOf
-  root-found =
-      least-found (isRoot s) (length s) (t .root) (omega arith)
-      (λ j h. other j h (isRoot s j) refl)
-      (λ _. is-root s (t .root) (t .root-itself))
-    where
-      other : (j : ℕ) → j < t .root → (b : Bool) → isRoot s j ≡ b → isRoot s j ≡ false
-      other j h true e = let q : j ≡ t .root = root-test j (omega arith) e in absurd (omega arith)
-      other j h false e = e
+  root-found = root-of-found (record {
+    from = zero-le;
+    to = omega (arith, t .root-inside);
+    before = λ j _ b e. let same = t .root-only j (omega (arith, t .root-inside)) e in omega arith;
+    here = λ _. t .root-itself;
+  })
 
   -- ---- LEVEL
 

@@ -36,8 +36,12 @@ accepted-passed (t ∷ ts) e =
     (λ p. let never : refused (t .number) (t .place) ≡ accepted = sym (verdict-fail t ts p) ∙ e in
     let z : _≡_ {A = ℕ} 0 1 = cc in absurd (omega arith))
 
+-- tests that pass leave the verdict to those after them
+pub passed-on : (before after : List Test) → Passed before → verdict (before ++ after) ≡ verdict after
+passed-on [] after p = refl
+passed-on (t ∷ before) after p = verdict-pass t (before ++ after) (p .0) ∙ passed-on before after (p .1)
+
 -- the first test that fails, after others that pass, refuses
 pub first-refused : (before : List Test) (t : Test) (after : List Test) → Passed before → t .passes ≡ false
     → verdict (before ++ t ∷ after) ≡ refused (t .number) (t .place)
-first-refused [] t after p e = verdict-fail t after e
-first-refused (b ∷ before) t after p e = verdict-pass b (before ++ t ∷ after) (p .0) ∙ first-refused before t after (p .1) e
+first-refused before t after p e = passed-on before (t ∷ after) p ∙ verdict-fail t after e

@@ -1,13 +1,13 @@
 -- The operator's table (document 01, "Numbers on the operator's screen"): its rows 1 to 11 as data, and the first that fails.
 -- Row 12, "illegible", is about lines of text, and stands with the program's forms.
 -- Assumes nothing.
-use Prim.Native.Nat.{ℕ}
-use mathlib.Core.Bool.{Bool, cond, not, _&&_}
+use Prim.Native.Nat.{ℕ, suc}
+use mathlib.Core.Bool.{Bool, cond, not}
 use mathlib.Core.List.{List, [], _∷_}
 use lib.Dec.{leb, ltb, eqb}
 use lib.ListN.{length, getD}
 use Rattle.tree.specs.Scan.{least}
-use Rattle.tree.specs.Tree.{parent, climb, isRoot, rootOf}
+use Rattle.tree.specs.Tree.{parent, climb, isRoot, nextRoot, rootOf}
 use Rattle.tree.specs.Lca.{isCommon}
 use Rattle.tree.specs.Verdict.{Verdict, accepted, refused}
 use Rattle.tree.specs.Tables.{Lent, own, endToEnd}
@@ -49,7 +49,9 @@ rootless s = record { number = 5; passes = ltb (rootOf s) (length s); place = 0 
 
 -- 6 "second root": two or more name themselves, at the second lowest of them
 unfoldable pub secondRoot : List ℕ → Test
-secondRoot s = lowestBad 6 (λ v. isRoot s v && ltb (rootOf s) v) (length s)
+secondRoot s =
+    let second = nextRoot s (suc (rootOf s)) in
+    record { number = 6; passes = leb (length s) second; place = second }
 
 -- 7 "loop": a part's climb never meets the root, at the lowest such part. A climb that has not met it after n steps never does
 unfoldable pub cycle : List ℕ → Test
@@ -77,6 +79,10 @@ adrift s question = record { number = 11; passes = ltb (least (isCommon s questi
 abbrev pub limit : ℕ
 limit = 16384
 
+-- the tests that a sheet is one rooted tree, 4 to 7
+abbrev pub treeTests : List ℕ → List Test
+treeTests s = offSheet s ∷ rootless s ∷ secondRoot s ∷ cycle s ∷ []
+
 -- the tests of a sheet, 1 to 7, of a call whose lowest buffer that does not fit is `buffer`
 abbrev pub sheetTests : List ℕ → ℕ → List Test
-sheetTests s buffer = bare s ∷ oversize limit s ∷ misfit buffer ∷ offSheet s ∷ rootless s ∷ secondRoot s ∷ cycle s ∷ []
+sheetTests s buffer = bare s ∷ oversize limit s ∷ misfit buffer ∷ treeTests s

@@ -1,12 +1,12 @@
 -- A sheet and its words (document 01, "The sheet and its words"), over the list of its entries alone.
 -- Assumes nothing.
-use Prim.Native.Nat.{ℕ, zero, suc, _<_}
+use Prim.Native.Nat.{ℕ, zero, suc, _-_, _<_}
 use mathlib.Core.Path.{_≡_}
 use mathlib.Core.Bool.{Bool, true}
 use mathlib.Core.List.{List}
 use lib.Dec.{eqb, ltb}
 use lib.ListN.{length, getD}
-use Rattle.tree.specs.Scan.{least}
+use Rattle.tree.specs.Scan.{leastFrom, least}
 
 -- "Entry v is the part into which part v is bolted. Parts are numbered from 0": a sheet s is the list of its entries
 unfoldable pub parent : List ℕ → ℕ → ℕ
@@ -30,9 +30,13 @@ isAncestor s a v = ltb (least (λ k. eqb (climb s k v) a) (length s)) (length s)
 unfoldable pub isRoot : List ℕ → ℕ → Bool
 isRoot s v = eqb (parent s v) v
 
--- the lowest part that names itself; n where there is none
+-- the lowest part from `from` on that names itself; n where there is none
+unfoldable pub nextRoot : List ℕ → ℕ → ℕ
+nextRoot s from = leastFrom (isRoot s) from (length s - from)
+
+-- the lowest part that names itself
 unfoldable pub rootOf : List ℕ → ℕ
-rootOf s = least (isRoot s) (length s)
+rootOf s = nextRoot s 0
 
 -- a climb from v meets the root
 pub record MeetsRoot (s : List ℕ) (v : ℕ) : Type 0 where

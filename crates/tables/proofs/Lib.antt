@@ -1,0 +1,2 @@
+-- Laws about the loops of this crate. Assumes nothing.
+pub mod Climbing

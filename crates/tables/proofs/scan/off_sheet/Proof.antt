@@ -1,0 +1,60 @@
+-- `tables::scan::off_sheet` meets its contract: the entries passed are all below n.
+-- Assumes nothing.
+use Prim.Native.Nat.{ℕ, _-_, _≤_, _<_}
+use native.Mathlib.Nat.{not-suc-le-zero}
+use native.Mathlib.Omega.{arith}
+use borrow.Author.Count.{below-more}
+use borrow.Author.Needs.{needs}
+use lib.ListN.{length, getD}
+use Rattle.tree.proofs.Places.{off-sheet-place}
+use Rattle.tables.proofs.scan.off_sheet.Statement.{statement}
+use Rattle.tables.proofs.scan.off_sheet.Tie as tie
+
+abbrev Inv-loop : tie.InvT-loop
+Inv-loop parents n v₀ v = (v ≤ length parents) × ((j : ℕ) → j < v → getD parents j 0 < length parents)
+
+abbrev μ-loop : tie.MeasureT-loop
+μ-loop parents n v₀ v = length parents - v
+
+loop-holds : tie.Need-loop-holds Inv-loop μ-loop
+loop-holds c = (search needs, λ j h. absurd (not-suc-le-zero h))
+
+mul-if1 : tie.Need-mul-if1 Inv-loop μ-loop
+mul-if1 c = search needs
+
+shared-slice-read-if1 : tie.Need-shared-slice-read-if1 Inv-loop μ-loop
+shared-slice-read-if1 c = search needs
+
+cast-if1 : tie.Need-cast-if1 Inv-loop μ-loop
+cast-if1 c = omega (arith, c .shared-slice-known .given (c .before .before .loop .v))
+
+returns : tie.Need-returns Inv-loop μ-loop
+returns c = off-sheet-place _ _ (omega arith) (c .before .before .before .loop .inv .1) (λ _. c .if1 .taken)
+
+add-v : tie.Need-add-v Inv-loop μ-loop
+add-v c = search needs
+
+loop-less : tie.Need-loop-less Inv-loop μ-loop
+loop-less c = search needs
+
+loop-again : tie.Need-loop-again Inv-loop μ-loop
+loop-again c = (search needs, below-more _ _ (c .before .before .before .loop .inv .1) (c .if1 .left))
+
+returns-2 : tie.Need-returns-2 Inv-loop μ-loop
+returns-2 c = off-sheet-place _ _ (c .before .loop .inv .0) (c .before .loop .inv .1) (λ h. absurd (omega arith))
+
+pub off-sheet-spec : {M : Type 1} → statement M
+off-sheet-spec =
+    tie.close
+    (tie.spec
+    Inv-loop
+    μ-loop
+    loop-holds
+    mul-if1
+    shared-slice-read-if1
+    cast-if1
+    returns
+    add-v
+    loop-less
+    loop-again
+    returns-2)

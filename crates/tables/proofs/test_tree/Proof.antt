@@ -1,0 +1,108 @@
+-- `tables::test_tree` meets its contract: each answer is that of the first test whose place was found.
+-- Assumes nothing.
+use Prim.Native.Nat.{ℕ, suc, _≤_, _<_}
+use native.Mathlib.Numerals.{add-one}
+use mathlib.Core.Path.{_≡_, sym, ap, _∙_, subst}
+use mathlib.Core.List.{List}
+use borrow.Author.Needs.{needs}
+use lib.ListN.{length}
+use Rattle.tree.specs.Tree.{nextRoot, rootOf}
+use Rattle.tree.specs.Verdict.{refused}
+use Rattle.tree.specs.Tests.{offSheet}
+use Rattle.tree.proofs.Roots.{root-of-next}
+use Rattle.tree.proofs.Answers.{refused-off-sheet, refused-rootless, refused-second-root, refused-cycle, accepted-tree-tests}
+use Rattle.tables.specs.Stamps.{OneRoot}
+use Rattle.tables.proofs.Climbing.{one-root}
+use Rattle.tables.proofs.test_tree.Statement.{statement}
+use Rattle.tables.proofs.test_tree.Tie as tie
+
+-- the sheet
+abbrev sheet : tie.Start → List ℕ
+sheet c = c .args .parents .now
+
+-- no entry is off it
+entries : (c : tie.Else1) → length (sheet (c .before .before .before .before)) ≤ offSheet (sheet (c .before .before .before .before)) .place
+entries c = rw (c .before .off-sheet .ensures) at (c .if1 .left)
+
+-- root is its lowest part that names itself
+root : (c : tie.After-next-root) → c .next-root .result ≡ rootOf (sheet (c .before .before .before .before .before))
+root c = c .next-root .ensures ∙ sym (root-of-next _)
+
+below : (c : tie.Else2) → rootOf (sheet (c .before .before .before .before .before .before)) < length (sheet (c .before .before .before .before .before .before))
+below c = rw (root (c .before)) at (c .if2 .left)
+
+-- second is the next, and there is none
+second : (c : tie.After-next-root2)
+    → c .next-root2 .result ≡ nextRoot (sheet (c .before .before .before .before .before .before .before)) (suc (rootOf (sheet (c .before .before .before .before .before .before .before))))
+second c = c .next-root2 .ensures ∙ ap (nextRoot _) (add-one _ ∙ ap suc (root (c .before .before)))
+
+none : (c : tie.Else3)
+    → length (sheet (c .before .before .before .before .before .before .before .before))
+    ≤ nextRoot (sheet (c .before .before .before .before .before .before .before .before)) (suc (rootOf (sheet (c .before .before .before .before .before .before .before .before))))
+none c = rw (second (c .before)) at (c .if3 .left)
+
+off-sheet-requires : tie.Need-off-sheet-requires
+off-sheet-requires c κs = search needs
+
+returns : tie.Need-returns
+returns c =
+    let e = c .before .off-sheet .ensures in
+    ap (refused 4) e ∙ sym (refused-off-sheet _ (rw e at (c .if1 .taken)))
+
+next-root-requires : tie.Need-next-root-requires
+next-root-requires c κs = search needs
+
+returns-2 : tie.Need-returns-2
+returns-2 c = sym (refused-rootless _ (entries (c .before .before)) (rw (root (c .before)) at (c .if2 .taken)))
+
+add-next-root : tie.Need-add-next-root
+add-next-root c = search needs
+
+next-root-requires-2 : tie.Need-next-root-requires-2
+next-root-requires-2 c κs = search needs
+
+returns-3 : tie.Need-returns-3
+returns-3 c =
+    let e = second (c .before) in
+    ap (refused 6) e ∙ sym (refused-second-root _ (entries (c .before .before .before .before)) (below (c .before .before)) (rw e at (c .if3 .taken)))
+
+first-cycle-requires : tie.Need-first-cycle-requires
+first-cycle-requires c κs =
+    let d = c .before in
+    let one = one-root _ (entries (d .before .before .before .before)) (below (d .before .before)) (none d) in
+    record { one = subst (OneRoot _) (sym (root (d .before .before .before))) one; blank = d .before .before .before .before .before .before .before .before .pre }
+
+same-length : tie.Need-same-length
+same-length c = search needs
+
+returns-4 : tie.Need-returns-4
+returns-4 c =
+    let e = c .before .before .before .first-cycle .ensures in
+    let d = c .before .before .before .before .before in
+    ap (refused 7) e ∙ sym (refused-cycle _ (entries (d .before .before .before .before)) (below (d .before .before)) (none d) (rw e at (c .if4 .taken)))
+
+same-length-2 : tie.Need-same-length-2
+same-length-2 c = search needs
+
+returns-5 : tie.Need-returns-5
+returns-5 c =
+    let e = c .before .before .before .first-cycle .ensures in
+    let d = c .before .before .before .before .before in
+    sym (accepted-tree-tests _ (entries (d .before .before .before .before)) (below (d .before .before)) (none d) (rw e at (c .if4 .left)))
+
+pub test-tree-spec : {M : Type 1} → statement M
+test-tree-spec =
+    tie.close
+    (tie.spec
+    off-sheet-requires
+    returns
+    next-root-requires
+    returns-2
+    add-next-root
+    next-root-requires-2
+    returns-3
+    first-cycle-requires
+    same-length
+    returns-4
+    same-length-2
+    returns-5)

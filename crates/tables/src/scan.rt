@@ -1,0 +1,49 @@
+// One pass over a slice: clearing it, and the first part that fails a test.
+
+ghost use mathlib.Core.Path.{_≡_};
+ghost use Prim.Native.Nat.{_≤_};
+ghost use lib.ListN.{length, replicate};
+ghost use Rattle.tree.specs.Tree.{nextRoot};
+ghost use Rattle.tree.specs.Tests.{offSheet};
+
+// Fills a buffer with zeros.
+pub fn clear(buffer: &mut [u16])
+    ensures { λ _. ⌜ now (buffer .exit) ≡ replicate (length (now (buffer .entry))) 0 ⌝ }
+{
+    let mut i = 0;
+    while i < buffer.len() {
+        buffer[i] = 0;
+        i += 1;
+    }
+}
+
+// The lowest part whose entry is no part; the number of parts where there is none.
+pub fn off_sheet(parents: &[u16]) -> usize
+    ensures { λ r. ⌜ r ≡ offSheet (now (parents .entry)) .place ⌝ }
+{
+    let n = parents.len();
+    let mut v = 0;
+    while v < n {
+        if n <= parents[v] as usize {
+            return v;
+        }
+        v += 1;
+    }
+    v
+}
+
+// The lowest part from `first` on that names itself; the number of parts where there is none.
+pub fn next_root(parents: &[u16], first: usize) -> usize
+    requires { ⌜ first ≤ length (now parents) ⌝ }
+    ensures { λ r. ⌜ r ≡ nextRoot (now (parents .entry)) first ⌝ }
+{
+    let n = parents.len();
+    let mut v = first;
+    while v < n {
+        if parents[v] as usize == v {
+            return v;
+        }
+        v += 1;
+    }
+    v
+}
