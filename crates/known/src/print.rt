@@ -13,6 +13,21 @@ pub fn number(n: u64) {
     io::print_decimal(1, n);
 }
 
+// A sheet's entries, and how many cells of work are lent with it.
+pub fn sheet(parents: &[u16], cells: u64) {
+    if parents.len() == 0 {
+        text(b"no entries ");
+    }
+    let mut v = 0;
+    while v < parents.len() {
+        number(parents[v] as u64);
+        text(b" ");
+        v += 1;
+    }
+    text(b"with ");
+    number(cells);
+}
+
 // ": accepted", or ": refused N at P".
 pub fn verdict(r: Outcome) {
     match r {

@@ -90,10 +90,6 @@ least-none p n h = sym (least-found p n n (le-refl n) h (λ b. absurd (omega ari
 
 -- ---- a position in a list
 
-pub position-le : (l : List ℕ) (v : ℕ) → position l v ≤ length l
-unfolding position
-position-le l v = least-le _ (length l)
-
 -- what stands there is the number that was looked for
 pub position-here : (l : List ℕ) (v : ℕ) → position l v < length l → getD l (position l v) 0 ≡ v
 unfolding position
@@ -144,10 +140,3 @@ pub length-tabulate-from {ℓ} : {A : Type ℓ} (f : ℕ → A) (i k : ℕ) → 
 unfolding tabulateFrom
 length-tabulate-from f i zero = refl
 length-tabulate-from f i (suc k) = ap suc (length-tabulate-from f (suc i) k)
-
-pub getD-tabulate-from {ℓ} : {A : Type ℓ} (f : ℕ → A) (i k j : ℕ) (d : A) → j < k → getD (tabulateFrom f i k) j d ≡ f (i + j)
-unfolding tabulateFrom
-getD-tabulate-from f i zero j d h = absurd (not-suc-le-zero h)
-getD-tabulate-from f i (suc k) zero d h = ap f (sym (add-zero i))
-getD-tabulate-from f i (suc k) (suc j) d h =
-    getD-tabulate-from f (suc i) k j d (le-of-suc-le-suc h) ∙ ap f (suc-add i j ∙ sym (add-suc i j))
