@@ -5,7 +5,7 @@ use native.Mathlib.Nat.{le-refl, not-suc-le-zero}
 use native.Mathlib.Omega.{arith}
 use mathlib.Core.Path.{_≡_, refl, sym, ap, _∙_, subst}
 use mathlib.Core.Logic.{_≢_}
-use mathlib.Core.Bool.{Bool, true, false}
+use mathlib.Core.Bool.{true, false}
 use mathlib.Core.List.{List}
 use borrow.Author.Tests.{eq-eqb, ne-eqb}
 use lib.Dec.{eqb}
@@ -13,7 +13,7 @@ use lib.ListN.{length, getD, set, length-set, getD-replicate}
 use lib.Seq.{getD-set-same, getD-set-other}
 use Rattle.tree.specs.Scan.{count}
 use Rattle.tree.specs.Tree.{parent, climb, isRoot, nextRoot, rootOf, MeetsRoot}
-use Rattle.tree.specs.Tests.{offSheet}
+use Rattle.tree.specs.Tests.{parentOutOfRange}
 use Rattle.tree.proofs.Scans.{by-test, by-equal, count-less}
 use Rattle.tree.proofs.Climbs.{Inside, climb-zero, climb-add, climb-suc, climb-round}
 use Rattle.tree.proofs.Roots.{is-root, root-is, root-of, no-second}
@@ -41,7 +41,7 @@ pub record Climbing (s w : List ℕ) (v u k : ℕ) : Type 0 where
 -- ---- the start
 
 -- a sheet that has passed tests 4 to 6 has one root
-pub one-root : (s : List ℕ) → length s ≤ offSheet s .place → rootOf s < length s → length s ≤ nextRoot s (suc (rootOf s)) → OneRoot s (rootOf s)
+pub one-root : (s : List ℕ) → length s ≤ parentOutOfRange s .place → rootOf s < length s → length s ≤ nextRoot s (suc (rootOf s)) → OneRoot s (rootOf s)
 one-root s entries below none =
     record { inside = entries-inside-place s entries; part = below; itself = root-of s .here below; only = no-second s below none }
 

@@ -24,18 +24,18 @@ const WORK: usize = 4;
 pub fn check(parents: &[u16], work: &mut [u16]) -> Outcome
     ensures { λ r. ⌜ CheckGives (now (parents .entry)) (now (work .entry)) r (now (work .exit)) ⌝ }
 {
-    let misfit: usize = if work.len() == 4 * parents.len() {
+    let unfit: usize = if work.len() == 4 * parents.len() {
         0
     } else {
         WORK
     };
-    admit(parents, misfit, work)
+    admit(parents, unfit, work)
 }
 
-// Tests 1 to 7, of a call whose lowest buffer that does not fit is `misfit`, or 0.
-fn admit(parents: &[u16], misfit: usize, work: &mut [u16]) -> Outcome
-    requires { ⌜ (misfit ≡ 0 → length (now work) ≡ workCells (length (now parents))) ⌝ }
-    ensures { λ r. ⌜ Tested (now (parents .entry)) misfit (now (work .entry)) r (now (work .exit)) ⌝ }
+// Tests 1 to 7, of a call whose lowest buffer that does not fit is `unfit`, or 0.
+fn admit(parents: &[u16], unfit: usize, work: &mut [u16]) -> Outcome
+    requires { ⌜ (unfit ≡ 0 → length (now work) ≡ workCells (length (now parents))) ⌝ }
+    ensures { λ r. ⌜ Tested (now (parents .entry)) unfit (now (work .entry)) r (now (work .exit)) ⌝ }
 {
     let n = parents.len();
     if n == 0 {
@@ -44,8 +44,8 @@ fn admit(parents: &[u16], misfit: usize, work: &mut [u16]) -> Outcome
     if LIMIT < n {
         return Outcome::Refused(Refusal::TooLarge);
     }
-    if misfit != 0 {
-        return Outcome::Refused(Refusal::WrongLength(misfit));
+    if unfit != 0 {
+        return Outcome::Refused(Refusal::WrongLength(unfit));
     }
     scan::clear(work);
     let r = test_tree(parents, work);
@@ -59,7 +59,7 @@ fn test_tree(parents: &[u16], work: &mut [u16]) -> Outcome
     ensures { λ r. ⌜ verdictOf r ≡ verdict (treeTests (now (parents .entry))) ⌝ }
 {
     let n = parents.len();
-    let off = scan::off_sheet(parents);
+    let off = scan::out_of_range(parents);
     if off < n {
         return Outcome::Refused(Refusal::ParentOutOfRange(off));
     }

@@ -4,7 +4,7 @@ ghost use mathlib.Core.Path.{_≡_};
 ghost use Prim.Native.Nat.{_≤_};
 ghost use lib.ListN.{length, replicate};
 ghost use Rattle.tree.specs.Tree.{nextRoot};
-ghost use Rattle.tree.specs.Tests.{offSheet};
+ghost use Rattle.tree.specs.Tests.{parentOutOfRange};
 
 // Fills a buffer with zeros.
 pub fn clear(buffer: &mut [u16])
@@ -18,8 +18,8 @@ pub fn clear(buffer: &mut [u16])
 }
 
 // The lowest part whose entry is no part; the number of parts where there is none.
-pub fn off_sheet(parents: &[u16]) -> usize
-    ensures { λ r. ⌜ r ≡ offSheet (now (parents .entry)) .place ⌝ }
+pub fn out_of_range(parents: &[u16]) -> usize
+    ensures { λ r. ⌜ r ≡ parentOutOfRange (now (parents .entry)) .place ⌝ }
 {
     let n = parents.len();
     let mut v = 0;

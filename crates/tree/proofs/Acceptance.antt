@@ -1,20 +1,16 @@
--- A sheet is accepted exactly if it is one rooted tree of at most 16,384 parts.
+-- A sheet that is accepted is one rooted tree, and one rooted tree of at most 16,384 parts is accepted.
 -- Assumes nothing.
 use Prim.Native.Nat.{ℕ, _-_, _≤_, _<_}
-use native.Mathlib.Nat.{le-antisymm}
 use native.Mathlib.Omega.{arith}
 use mathlib.Core.Path.{_≡_, refl, sym, ap, _∙_}
-use mathlib.Core.Logic.{_≢_, _↔_}
-use mathlib.Core.Bool.{Bool, true, false, not, _&&_, true≢false, false≢true}
-use mathlib.Core.List.{List, [], _∷_}
-use borrow.Author.Tests.{lt-ltb, le-ltb, le-leb, lt-leb, eq-eqb, ltb-true, ltb-false, leb-false, leb-true, eqb-true, not-true, not-false}
-use lib.Dec.{leb, ltb}
+use mathlib.Core.Bool.{Bool, true, false, not}
+use mathlib.Core.List.{List}
+use borrow.Author.Tests.{lt-ltb, le-leb, lt-leb, eq-eqb, ltb-true, leb-false, leb-true, eqb-true, not-false}
 use lib.ListN.{length}
 use Rattle.tree.specs.Scan.{least}
-use Rattle.tree.specs.Tree.{parent, climb, Ancestor, isRoot, rootOf, MeetsRoot, level, Tree}
-use Rattle.tree.specs.Verdict.{accepted}
-use Rattle.tree.specs.Tests.{verdict, lowestBad, bare, oversize, misfit, offSheet, rootless, secondRoot, cycle, limit, sheetTests}
-use Rattle.tree.proofs.Scans.{by-test, least-here, least-before, least-at-most, least-none}
+use Rattle.tree.specs.Tree.{parent, climb, isRoot, rootOf, MeetsRoot, Tree}
+use Rattle.tree.specs.Tests.{lowestBad, empty, tooLarge, wrongLength, parentOutOfRange, noRoot, secondRoot, cycle, limit, sheetTests, Accepted}
+use Rattle.tree.proofs.Scans.{least-here, least-before, least-none}
 use Rattle.tree.proofs.Climbs.{Inside, climb-split, climb-stays, climb-inside, met-soon}
 use Rattle.tree.proofs.Roots.{is-root, root-is, root-of, no-second, second-none}
 use Rattle.tree.proofs.Trees.{root-found}
@@ -50,17 +46,17 @@ tree-meets {s} t v h =
 -- ---- what each test of a sheet says where it passes
 
 -- 4: every entry is below n
-pub entries-inside : (s : List ℕ) → offSheet s .passes ≡ true → Inside s
-unfolding offSheet
+pub entries-inside : (s : List ℕ) → parentOutOfRange s .passes ≡ true → Inside s
+unfolding parentOutOfRange
 entries-inside s e v h = leb-false (length s) (parent s v) (no-bad 4 _ (length s) e v h)
 
-pub inside-passes : (s : List ℕ) → Inside s → offSheet s .passes ≡ true
-unfolding offSheet
+pub inside-passes : (s : List ℕ) → Inside s → parentOutOfRange s .passes ≡ true
+unfolding parentOutOfRange
 inside-passes s inside = none-bad 4 _ (length s) (λ v h. lt-leb (length s) (parent s v) (inside v h))
 
 -- 5: some part names itself
-pub root-below : (s : List ℕ) → rootless s .passes ≡ true → rootOf s < length s
-unfolding rootless
+pub root-below : (s : List ℕ) → noRoot s .passes ≡ true → rootOf s < length s
+unfolding noRoot
 root-below s e = ltb-true _ _ e
 
 -- 6: no other part does
@@ -93,15 +89,15 @@ tree-of s inside below only meet = record {
       record { steps = m .steps; reaches = only u (climb-inside s inside (m .steps) v h) (root-is s u (m .meets)) };
 }
 
-accepted-tree : (s : List ℕ) → verdict (sheetTests s 0) ≡ accepted → Tree s × (length s ≤ limit)
-unfolding oversize
+pub accepted-tree : (s : List ℕ) → Accepted s → Tree s × (length s ≤ limit)
+unfolding tooLarge
 accepted-tree s e =
     let (_, (small, (_, (inside, (some, (alone, (meet, _))))))) = accepted-passed (sheetTests s 0) e in
     let below = root-below s some in
     (tree-of s (entries-inside s inside) below (root-alone s below alone) (all-meet s meet), leb-true _ _ small)
 
-tree-accepted : (s : List ℕ) → Tree s → length s ≤ limit → verdict (sheetTests s 0) ≡ accepted
-unfolding bare oversize misfit rootless secondRoot
+pub tree-accepted : (s : List ℕ) → Tree s → length s ≤ limit → Accepted s
+unfolding empty tooLarge wrongLength noRoot secondRoot
 tree-accepted s t h =
     let some : 0 < length s = omega (arith, t .root-inside) in
     let root : rootOf s < length s = rw (root-found t) at (t .root-inside) in
@@ -109,6 +105,3 @@ tree-accepted s t h =
     let meet = meet-passes s (t .inside) (tree-meets t) in
     passed-accepted (sheetTests s 0)
     (lt-ltb _ _ some, (le-leb _ _ h, (refl, (inside-passes s (t .inside), (lt-ltb _ _ root, (le-leb _ _ alone, (meet, tt)))))))
-
-pub accepted-exactly : (s : List ℕ) → (verdict (sheetTests s 0) ≡ accepted) ↔ (Tree s × (length s ≤ limit))
-accepted-exactly s = (accepted-tree s, λ p. tree-accepted s (p .0) (p .1))

@@ -12,7 +12,7 @@ use lib.Dec.{lit<}
 use lib.ListN.{length, replicate}
 use Rattle.tree.specs.Tree.{nextRoot, rootOf}
 use Rattle.tree.specs.Verdict.{Verdict, accepted, refused}
-use Rattle.tree.specs.Tests.{Test, verdict, lowestBad, bare, oversize, misfit, offSheet, rootless, secondRoot, cycle, limit, treeTests, sheetTests}
+use Rattle.tree.specs.Tests.{Test, verdict, lowestBad, empty, tooLarge, wrongLength, parentOutOfRange, noRoot, secondRoot, cycle, limit, treeTests, sheetTests}
 use Rattle.tree.specs.Buffers.{workAfter}
 use Rattle.tree.proofs.Scans.{by-test, least-le}
 use Rattle.tree.proofs.Verdicts.{Passed, passed-accepted, passed-on, first-refused}
@@ -26,39 +26,39 @@ bad-fails number bad n h = ne-eqb _ _ (ne-of-lt h)
 
 module _ (s : List ℕ) where
   -- no entry is off the sheet; one part names itself; no other does
-  entries-pass : length s ≤ offSheet s .place → Passed (offSheet s ∷ [])
-  unfolding offSheet
+  entries-pass : length s ≤ parentOutOfRange s .place → Passed (parentOutOfRange s ∷ [])
+  unfolding parentOutOfRange
   entries-pass h = (bad-passes 4 _ (length s) h, tt)
 
-  root-passes : length s ≤ offSheet s .place → rootOf s < length s → Passed (offSheet s ∷ rootless s ∷ [])
-  unfolding rootless
+  root-passes : length s ≤ parentOutOfRange s .place → rootOf s < length s → Passed (parentOutOfRange s ∷ noRoot s ∷ [])
+  unfolding noRoot
   root-passes h r = (entries-pass h .0, (lt-ltb _ _ r, tt))
 
-  alone-passes : length s ≤ offSheet s .place → rootOf s < length s → length s ≤ nextRoot s (suc (rootOf s))
-      → Passed (offSheet s ∷ rootless s ∷ secondRoot s ∷ [])
+  alone-passes : length s ≤ parentOutOfRange s .place → rootOf s < length s → length s ≤ nextRoot s (suc (rootOf s))
+      → Passed (parentOutOfRange s ∷ noRoot s ∷ secondRoot s ∷ [])
   unfolding secondRoot
   alone-passes h r a = (entries-pass h .0, (root-passes h r .1 .0, (le-leb _ _ a, tt)))
 
-  pub refused-off-sheet : offSheet s .place < length s → verdict (treeTests s) ≡ refused 4 (offSheet s .place)
-  unfolding offSheet
-  refused-off-sheet h = first-refused [] (offSheet s) _ tt (bad-fails 4 _ (length s) h)
+  pub refused-out-of-range : parentOutOfRange s .place < length s → verdict (treeTests s) ≡ refused 4 (parentOutOfRange s .place)
+  unfolding parentOutOfRange
+  refused-out-of-range h = first-refused [] (parentOutOfRange s) _ tt (bad-fails 4 _ (length s) h)
 
-  pub refused-rootless : length s ≤ offSheet s .place → length s ≤ rootOf s → verdict (treeTests s) ≡ refused 5 0
-  unfolding rootless
-  refused-rootless h r = first-refused (offSheet s ∷ []) (rootless s) _ (entries-pass h) (le-ltb _ _ r)
+  pub refused-no-root : length s ≤ parentOutOfRange s .place → length s ≤ rootOf s → verdict (treeTests s) ≡ refused 5 0
+  unfolding noRoot
+  refused-no-root h r = first-refused (parentOutOfRange s ∷ []) (noRoot s) _ (entries-pass h) (le-ltb _ _ r)
 
-  pub refused-second-root : length s ≤ offSheet s .place → rootOf s < length s → nextRoot s (suc (rootOf s)) < length s
+  pub refused-second-root : length s ≤ parentOutOfRange s .place → rootOf s < length s → nextRoot s (suc (rootOf s)) < length s
       → verdict (treeTests s) ≡ refused 6 (nextRoot s (suc (rootOf s)))
   unfolding secondRoot
-  refused-second-root h r b = first-refused (offSheet s ∷ rootless s ∷ []) (secondRoot s) _ (root-passes h r) (lt-leb _ _ b)
+  refused-second-root h r b = first-refused (parentOutOfRange s ∷ noRoot s ∷ []) (secondRoot s) _ (root-passes h r) (lt-leb _ _ b)
 
-  pub refused-cycle : length s ≤ offSheet s .place → rootOf s < length s → length s ≤ nextRoot s (suc (rootOf s)) → cycle s .place < length s
+  pub refused-cycle : length s ≤ parentOutOfRange s .place → rootOf s < length s → length s ≤ nextRoot s (suc (rootOf s)) → cycle s .place < length s
       → verdict (treeTests s) ≡ refused 7 (cycle s .place)
   unfolding cycle
   refused-cycle h r a b =
-      first-refused (offSheet s ∷ rootless s ∷ secondRoot s ∷ []) (cycle s) [] (alone-passes h r a) (bad-fails 7 _ (length s) b)
+      first-refused (parentOutOfRange s ∷ noRoot s ∷ secondRoot s ∷ []) (cycle s) [] (alone-passes h r a) (bad-fails 7 _ (length s) b)
 
-  pub accepted-tree-tests : length s ≤ offSheet s .place → rootOf s < length s → length s ≤ nextRoot s (suc (rootOf s)) → length s ≤ cycle s .place
+  pub accepted-tree-tests : length s ≤ parentOutOfRange s .place → rootOf s < length s → length s ≤ nextRoot s (suc (rootOf s)) → length s ≤ cycle s .place
       → verdict (treeTests s) ≡ accepted
   unfolding cycle
   accepted-tree-tests h r a c =
@@ -67,28 +67,28 @@ module _ (s : List ℕ) where
 
   -- ---- tests 1 to 3
 
-  pub refused-bare : (buffer : ℕ) → length s ≡ 0 → verdict (sheetTests s buffer) ≡ refused 1 0
-  unfolding bare
-  refused-bare buffer h = first-refused [] (bare s) _ tt (le-ltb _ _ (le-of-eq h))
+  pub refused-empty : (buffer : ℕ) → length s ≡ 0 → verdict (sheetTests s buffer) ≡ refused 1 0
+  unfolding empty
+  refused-empty buffer h = first-refused [] (empty s) _ tt (le-ltb _ _ (le-of-eq h))
 
-  pub refused-oversize : (buffer : ℕ) → 0 < length s → limit < length s → verdict (sheetTests s buffer) ≡ refused 2 0
-  unfolding bare oversize
-  refused-oversize buffer h l = first-refused (bare s ∷ []) (oversize limit s) _ (lt-ltb _ _ h, tt) (lt-leb _ _ l)
+  pub refused-too-large : (buffer : ℕ) → 0 < length s → limit < length s → verdict (sheetTests s buffer) ≡ refused 2 0
+  unfolding empty tooLarge
+  refused-too-large buffer h l = first-refused (empty s ∷ []) (tooLarge limit s) _ (lt-ltb _ _ h, tt) (lt-leb _ _ l)
 
-  sizes-pass : 0 < length s → length s ≤ limit → Passed (bare s ∷ oversize limit s ∷ [])
-  unfolding bare oversize
+  sizes-pass : 0 < length s → length s ≤ limit → Passed (empty s ∷ tooLarge limit s ∷ [])
+  unfolding empty tooLarge
   sizes-pass h l = (lt-ltb _ _ h, (le-leb _ _ l, tt))
 
-  pub refused-misfit : (buffer : ℕ) → 0 < length s → length s ≤ limit → buffer ≢ 0 → verdict (sheetTests s buffer) ≡ refused 3 buffer
-  unfolding misfit
-  refused-misfit buffer h l q = first-refused (bare s ∷ oversize limit s ∷ []) (misfit buffer) _ (sizes-pass h l) (ne-eqb _ _ q)
+  pub refused-wrong-length : (buffer : ℕ) → 0 < length s → length s ≤ limit → buffer ≢ 0 → verdict (sheetTests s buffer) ≡ refused 3 buffer
+  unfolding wrongLength
+  refused-wrong-length buffer h l q = first-refused (empty s ∷ tooLarge limit s ∷ []) (wrongLength buffer) _ (sizes-pass h l) (ne-eqb _ _ q)
 
   -- where all three pass, tests 4 to 7 decide
   pub tree-decides : (buffer : ℕ) → 0 < length s → length s ≤ limit → buffer ≡ 0 → verdict (sheetTests s buffer) ≡ verdict (treeTests s)
-  unfolding misfit
+  unfolding wrongLength
   tree-decides buffer h l e =
       let (a, (b, _)) = sizes-pass h l in
-      passed-on (bare s ∷ oversize limit s ∷ misfit buffer ∷ []) (treeTests s) (a, (b, (eq-eqb _ _ e, tt)))
+      passed-on (empty s ∷ tooLarge limit s ∷ wrongLength buffer ∷ []) (treeTests s) (a, (b, (eq-eqb _ _ e, tt)))
 
 -- ---- work
 
@@ -114,5 +114,5 @@ pub work-zero : (v : Verdict) (ts : List Test) (work : List ℕ) → v ≡ verdi
 work-zero v ts work e l = rw e (work-cleared ts work l)
 
 pub tree-later : (s : List ℕ) → Later (treeTests s)
-unfolding offSheet rootless secondRoot cycle
+unfolding parentOutOfRange noRoot secondRoot cycle
 tree-later s = (lit< tt, (lit< tt, (lit< tt, (lit< tt, tt))))

@@ -1,17 +1,17 @@
 -- Climbing on any sheet whose entries are all parts: steps add up, and what a climb meets at all it meets in fewer than n steps.
 -- Assumes nothing.
 use Prim.Native.Nat.{ℕ, zero, suc, _+_, _-_, _≤_, _<_}
-use native.Mathlib.Nat.{zero-add, suc-add, add-zero, add-suc, add-comm, lt-suc-self, le-of-lt}
+use native.Mathlib.Nat.{zero-add, suc-add}
 use native.Mathlib.Omega.{arith}
 use mathlib.Core.Path.{_≡_, refl, sym, ap, _∙_, subst}
-use mathlib.Core.Logic.{_≢_, _↔_}
+use mathlib.Core.Logic.{_≢_}
 use mathlib.Core.Bool.{Bool, true, false, true≢false}
 use mathlib.Core.List.{List}
 use borrow.Author.Tests.{eq-eqb, eqb-true, lt-ltb, ltb-true}
-use lib.Dec.{eqb, ltb}
+use lib.Dec.{eqb}
 use lib.ListN.{length}
 use Rattle.tree.specs.Scan.{least}
-use Rattle.tree.specs.Tree.{parent, climb, Ancestor, isAncestor, isRoot}
+use Rattle.tree.specs.Tree.{parent, climb, Ancestor, isAncestor}
 use Rattle.tree.proofs.Scans.{by-equal, least-here, least-before, least-at-most}
 use Rattle.tree.proofs.Pigeonhole.{pigeonhole}
 

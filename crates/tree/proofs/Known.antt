@@ -7,7 +7,7 @@ use Rattle.bits.specs.Bits.{log2, log2In, rightmostZeros, lowestOne, clearBelow
 use Rattle.tree.specs.Scan.{least, leastFrom, count, tabulate, tabulateFrom, range, keep, every, best, bestFrom, position}
 use Rattle.tree.specs.Tree.{parent, climb, isAncestor, isRoot, nextRoot, rootOf, level}
 use Rattle.tree.specs.Lca.{lca, isCommon}
-use Rattle.tree.specs.Tests.{verdict, bare, oversize, misfit, offSheet, rootless, secondRoot, cycle}
+use Rattle.tree.specs.Tests.{verdict, empty, tooLarge, wrongLength, parentOutOfRange, noRoot, secondRoot, cycle}
 use Rattle.tree.specs.Preorder.{preorderNumber, size, tour, isChild, eachChild, preorderIn, preorder, tourIn, firstVisit}
 use Rattle.tree.specs.Labels.{mostZeros, inlabel, ascendantIn, ascendant, head, labelTable}
 use Rattle.tree.specs.Tour.{tourTable, sparse, sparseRows}
@@ -21,7 +21,7 @@ unfolding trailingZeros ones onesIn flatten
     log2 log2In rightmostZeros lowestOne clearBelow bitsBelow
     least leastFrom count tabulate tabulateFrom range keep every best bestFrom position
     parent climb isAncestor isRoot nextRoot rootOf level lca isCommon
-    verdict bare oversize misfit offSheet rootless secondRoot cycle
+    verdict empty tooLarge wrongLength parentOutOfRange noRoot secondRoot cycle
     preorderNumber size tour isChild eachChild preorderIn preorder tourIn firstVisit
     mostZeros inlabel ascendantIn ascendant head labelTable tourTable sparse sparseRows liftTable lift
     step1 step2 step3 labelAbove byLabels byTour

@@ -4,15 +4,15 @@ use Prim.Native.Nat.{ℕ, _-_, _≤_, _<_}
 use native.Mathlib.Nat.{not-suc-le-zero}
 use native.Mathlib.Omega.{arith}
 use mathlib.Core.Path.{_≡_, refl, sym, ap, _∙_}
-use mathlib.Core.Bool.{Bool, true, false, _&&_, false≢true}
+use mathlib.Core.Bool.{Bool, true, false≢true}
 use mathlib.Core.Logic.{⊎-elim}
 use mathlib.Core.List.{List, [], _∷_, List·Memᴰ, List·Memᴰ·head, List·Memᴰ·tail, List·Memᴰ·not-nil, List·Memᴰ·cases-cons}
 use lib.ListN.{length}
 use Rattle.tree.specs.Scan.{least, every}
-use Rattle.tree.specs.Tree.{climb, Ancestor, isAncestor, level, Tree}
+use Rattle.tree.specs.Tree.{climb, isAncestor, level, Tree}
 use Rattle.tree.specs.Lca.{Parts, Common, Lca, isCommon, lca}
 use Rattle.tree.proofs.Scans.{by-test, least-here, least-at-most}
-use Rattle.tree.proofs.Climbs.{climb-split, ancestor-climb, ancestor-inside, met-soon, ancestor-test, test-ancestor}
+use Rattle.tree.proofs.Climbs.{climb-split, ancestor-inside, met-soon, ancestor-test, test-ancestor}
 use Rattle.tree.proofs.Trees.{climb-level, ancestor-antisym}
 
 -- ---- the test of a whole list

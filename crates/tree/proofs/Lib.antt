@@ -14,4 +14,5 @@ pub mod Verdicts
 pub mod Acceptance
 pub mod Places
 pub mod Answers
+pub mod Claims
 pub mod Known

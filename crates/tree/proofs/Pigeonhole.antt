@@ -8,7 +8,6 @@ use mathlib.Core.Logic.{_≢_}
 use mathlib.Core.Bool.{cond}
 use borrow.Author.Tests.{eq-eqb, ne-eqb}
 use lib.Dec.{eqb}
-use lib.Arith.{lt-of-le-ne}
 use Rattle.tree.proofs.Scans.{by-equal}
 
 -- f with its value at m in the place of the value n

@@ -9,20 +9,20 @@ use mathlib.Core.List.{List}
 use borrow.Author.Tests.{le-leb, lt-leb, leb-false}
 use lib.ListN.{length, getD}
 use Rattle.tree.specs.Tree.{parent, climb, isRoot, nextRoot}
-use Rattle.tree.specs.Tests.{offSheet, cycle}
+use Rattle.tree.specs.Tests.{parentOutOfRange, cycle}
 use Rattle.tree.proofs.Scans.{least-found, least-before}
 use Rattle.tree.proofs.Climbs.{Inside}
 use Rattle.tree.proofs.Roots.{next-root-found}
 
 -- 4: the lowest part whose entry is n or more
-pub off-sheet-place : (s : List ℕ) (r : ℕ) → r ≤ length s → ((j : ℕ) → j < r → getD s j 0 < length s) → (r < length s → length s ≤ getD s r 0)
-    → r ≡ offSheet s .place
-unfolding offSheet parent
-off-sheet-place s r h before here = least-found _ (length s) r h (λ j b. lt-leb _ _ (before j b)) (λ b. le-leb _ _ (here b))
+pub out-of-range-place : (s : List ℕ) (r : ℕ) → r ≤ length s → ((j : ℕ) → j < r → getD s j 0 < length s) → (r < length s → length s ≤ getD s r 0)
+    → r ≡ parentOutOfRange s .place
+unfolding parentOutOfRange parent
+out-of-range-place s r h before here = least-found _ (length s) r h (λ j b. lt-leb _ _ (before j b)) (λ b. le-leb _ _ (here b))
 
 -- .. where there is none, every entry is a part
-pub entries-inside-place : (s : List ℕ) → length s ≤ offSheet s .place → Inside s
-unfolding offSheet
+pub entries-inside-place : (s : List ℕ) → length s ≤ parentOutOfRange s .place → Inside s
+unfolding parentOutOfRange
 entries-inside-place s h v b = leb-false (length s) (parent s v) (least-before _ (length s) v (lt-of-lt-of-le b h))
 
 -- 5 and 6: the lowest part that names itself, from a part on

@@ -9,7 +9,7 @@ use mathlib.Core.List.{List, [], _∷_, List·Memᴰ, List·Memᴰ·head, List·
 use lib.Dec.{lit<}
 use lib.ListN.{length}
 use Rattle.tree.specs.Tree.{parent, Ancestor, level, Tree}
-use Rattle.tree.specs.Lca.{Parts, Common, lca}
+use Rattle.tree.specs.Lca.{Common, lca}
 use Rattle.tree.proofs.Scans.{by-order, by-equal}
 use Rattle.tree.proofs.Climbs.{ancestor-parent, ancestor-refl, ancestor-trans, ancestor-inside}
 use Rattle.tree.proofs.Trees.{level-parent, above, ancestors-ordered, same-level, ancestor-antisym, ChildToward, child-toward}

@@ -3,16 +3,16 @@
 use Prim.Native.Nat.{ℕ, zero, suc, _+_, _≤_, _<_}
 use native.Mathlib.Nat.{not-suc-le-zero, lt-suc-self, le-refl}
 use native.Mathlib.Omega.{arith}
-use mathlib.Core.Path.{_≡_, refl, sym, ap, _∙_, subst}
+use mathlib.Core.Path.{_≡_, sym, ap, _∙_, subst}
 use mathlib.Core.Logic.{_≢_, ⊎-elim}
 use mathlib.Core.Bool.{true, false, and-eq-true-iff}
-use mathlib.Core.List.{List, [], _∷_, _++_, List·Memᴰ, List·Memᴰ·head, List·Memᴰ·tail, List·Memᴰ·not-nil, List·Memᴰ·cases-cons, List·Memᴰ·append-cases, Memᴰ·append-left, Memᴰ·append-right, append-nil}
+use mathlib.Core.List.{List, _++_, List·Memᴰ, List·Memᴰ·head, List·Memᴰ·tail, List·Memᴰ·not-nil, List·Memᴰ·cases-cons, List·Memᴰ·append-cases, Memᴰ·append-left, Memᴰ·append-right, append-nil}
 use borrow.Author.Tests.{eq-eqb, ne-eqb, eqb-true, eqb-false, not-true}
 use lib.ListN.{length}
 use Rattle.tree.specs.Tree.{parent, Ancestor, level, Tree}
 use Rattle.tree.specs.Preorder.{isChild, eachChild, preorderIn}
 use Rattle.tree.proofs.Scans.{by-test, by-equal}
-use Rattle.tree.proofs.Climbs.{ancestor-refl, ancestor-parent, ancestor-trans, ancestor-inside}
+use Rattle.tree.proofs.Climbs.{ancestor-refl, ancestor-parent, ancestor-trans}
 use Rattle.tree.proofs.Trees.{level-below, level-parent, above, child-toward}
 use Rattle.tree.proofs.Precedes.{Siblings, Precedes, carries, beside}
 use Rattle.tree.proofs.Orders.{Ordered, ordered-append}

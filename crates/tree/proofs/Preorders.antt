@@ -1,10 +1,10 @@
 -- The preorder list of a tree is document 01's order: it meets the three sentences, and no other list does.
 -- Assumes nothing.
 use Prim.Native.Nat.{ℕ, zero, suc, _≤_, _<_}
-use native.Mathlib.Nat.{not-suc-le-zero, le-antisymm, lt-irrefl, lt-of-le-of-lt, lt-of-lt-of-le}
+use native.Mathlib.Nat.{not-suc-le-zero, le-antisymm}
 use native.Mathlib.Omega.{arith}
 use mathlib.Core.Path.{_≡_, refl, sym, ap, _∙_, subst}
-use mathlib.Core.Logic.{_≢_, ⊎-elim}
+use mathlib.Core.Logic.{⊎-elim}
 use mathlib.Core.List.{List}
 use lib.ListN.{length, getD}
 use lib.Seq.{ext-getD}
@@ -13,7 +13,7 @@ use Rattle.tree.specs.Tree.{parent, Ancestor, rootOf, level, Tree}
 use Rattle.tree.specs.Preorder.{Before, Preorder, preorderIn, preorder}
 use Rattle.tree.proofs.Scans.{by-order, by-equal, position-here, position-at-most}
 use Rattle.tree.proofs.Trees.{root-found, level-root}
-use Rattle.tree.proofs.Precedes.{Siblings, Precedes, carries, beside, precedes-asym, precedes-irrefl, precedes-total}
+use Rattle.tree.proofs.Precedes.{Precedes, carries, beside, precedes-asym, precedes-irrefl, precedes-total}
 use Rattle.tree.proofs.Orders.{member-at, member-position, Ordered, ordered-at}
 use Rattle.tree.proofs.PreorderList.{member-carried, carried-member, preorder-ordered}
 

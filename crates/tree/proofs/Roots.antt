@@ -4,11 +4,10 @@ use Prim.Native.Nat.{ℕ, suc, _-_, _≤_, _<_, zero-le}
 use native.Mathlib.Omega.{arith}
 use mathlib.Core.Path.{_≡_, refl}
 use mathlib.Core.Logic.{_≢_}
-use mathlib.Core.Bool.{true, false}
+use mathlib.Core.Bool.{true}
 use mathlib.Core.List.{List}
 use borrow.Author.Tests.{eq-eqb, ne-eqb, eqb-true, eqb-false}
 use lib.ListN.{length}
-use Rattle.tree.specs.Scan.{leastFrom}
 use Rattle.tree.specs.Tree.{parent, isRoot, nextRoot, rootOf}
 use Rattle.tree.proofs.Scans.{by-equal, by-order, least-from, least-unique}
 

@@ -1,16 +1,16 @@
 -- Laws of `specs/Scan.antt`: what a search finds, and what a count, a list of values and a best member are.
 -- Assumes nothing.
 use Prim.Native.Nat.{ℕ, zero, suc, _+_, _≤_, _<_}
-use native.Mathlib.Nat.{le-refl, le-antisymm, add-zero, add-suc, suc-add, le-of-suc-le-suc, not-suc-le-zero, lt-of-not-le, lt-suc-self}
+use native.Mathlib.Nat.{le-refl, le-antisymm, not-suc-le-zero, lt-of-not-le, lt-suc-self}
 use native.Mathlib.Omega.{arith}
-use native.Mathlib.Decide.{decLe, decLt, ℕ-discrete}
-use mathlib.Core.Path.{_≡_, refl, sym, ap, _∙_, subst}
-use mathlib.Core.Logic.{_≢_, _⊎_, inl, inr}
-use mathlib.Core.Bool.{Bool, true, false, cond, true≢false}
-use mathlib.Core.List.{List, [], _∷_, List·Memᴰ, List·Memᴰ·head, List·Memᴰ·tail, List·Memᴰ·cases-cons}
+use native.Mathlib.Decide.{decLe, ℕ-discrete}
+use mathlib.Core.Path.{_≡_, refl, sym, ap, _∙_}
+use mathlib.Core.Logic.{_≢_}
+use mathlib.Core.Bool.{Bool, true, false, true≢false}
+use mathlib.Core.List.{List}
 use borrow.Author.Tests.{eqb-true, eq-eqb}
 use lib.ListN.{length, getD}
-use Rattle.tree.specs.Scan.{leastFrom, least, count, tabulateFrom, tabulate, position}
+use Rattle.tree.specs.Scan.{leastFrom, least, count, tabulateFrom, position}
 
 -- a test passes or fails
 pub by-test {ℓ} : {X : Type ℓ} (b : Bool) → (b ≡ true → X) → (b ≡ false → X) → X

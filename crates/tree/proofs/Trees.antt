@@ -1,15 +1,14 @@
 -- Trees: LEVEL, and which part carries which, by steps and levels. Each law holds of a sheet that is one rooted tree.
 -- Assumes nothing.
-use Prim.Native.Nat.{ℕ, zero, suc, _+_, _-_, _≤_, _<_, zero-le}
-use native.Mathlib.Nat.{le-antisymm, sub-self, le-refl}
+use Prim.Native.Nat.{ℕ, suc, _+_, _-_, _≤_, _<_, zero-le}
 use native.Mathlib.Omega.{arith}
-use mathlib.Core.Path.{_≡_, refl, sym, ap, _∙_, subst}
+use mathlib.Core.Path.{_≡_, sym, ap, _∙_}
 use mathlib.Core.Logic.{_≢_}
-use mathlib.Core.Bool.{Bool, true, false, true≢false}
+use mathlib.Core.Bool.{true}
 use mathlib.Core.List.{List}
 use lib.ListN.{length}
 use Rattle.tree.specs.Scan.{least}
-use Rattle.tree.specs.Tree.{parent, climb, Ancestor, isAncestor, isRoot, rootOf, level, Tree}
+use Rattle.tree.specs.Tree.{parent, climb, Ancestor, isRoot, rootOf, level, Tree}
 use Rattle.tree.proofs.Scans.{by-order, least-here, least-at-most}
 use Rattle.tree.proofs.Roots.{is-root, root-is, root-of-found}
 use Rattle.tree.proofs.Climbs.{climb-zero, climb-one, climb-add, climb-suc, climb-split, climb-inside, climb-stays, ancestor-climb, met-soon}

@@ -5,7 +5,7 @@ use mathlib.Core.Path.{_≡_, refl, sym, _∙_}
 use mathlib.Core.Bool.{true, false}
 use mathlib.Core.List.{List, [], _∷_, _++_}
 use native.Mathlib.Omega.{arith}
-use Rattle.tree.specs.Verdict.{Verdict, accepted, refused}
+use Rattle.tree.specs.Verdict.{accepted, refused}
 use Rattle.tree.specs.Tests.{Test, verdict}
 use Rattle.tree.proofs.Scans.{by-test}
 

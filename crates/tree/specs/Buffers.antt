@@ -77,9 +77,9 @@ abbrev pub trailFit : ℕ → Fit
 trailFit cells = record { buffer = 7; fits = eqb cells trailCells }
 
 -- the first of the lent buffers, listed by rising number, that does not fit; 0 where all fit
-unfoldable pub lowestMisfit : List Fit → ℕ
-lowestMisfit [] = 0
-lowestMisfit (b ∷ bs) = cond (b .fits) (lowestMisfit bs) (b .buffer)
+unfoldable pub firstUnfit : List Fit → ℕ
+firstUnfit [] = 0
+firstUnfit (b ∷ bs) = cond (b .fits) (firstUnfit bs) (b .buffer)
 
 -- ---- afterwards
 

@@ -2,20 +2,19 @@
 -- the list that the document states; `proofs/Known.antt` has the one proof that they agree.
 -- Assumes nothing.
 use Prim.Native.Nat.{ℕ, suc}
-use mathlib.Core.List.{List, [], _∷_, _++_, map}
+use mathlib.Core.List.{List, [], _∷_, _++_}
 use lib.ListN.{length}
-use Rattle.tree.specs.declared.Refusal.{Refusal}
-use Rattle.tree.specs.declared.Refusal.the-variants.{Empty, TooLarge, WrongLength, ParentOutOfRange, NoRoot, SecondRoot, Cycle, StaleTable, NothingListed, NodeOutOfRange, NoCommonAncestor, MalformedLine}
+use Rattle.tree.specs.declared.Refusal.the-variants.{NoRoot, SecondRoot, Cycle}
 use Rattle.tree.specs.declared.Outcome.{Outcome}
 use Rattle.tree.specs.declared.Outcome.the-variants.{Accepted, Refused}
 use Rattle.tree.specs.Scan.{tabulate}
 use Rattle.tree.specs.Lca.{lca}
-use Rattle.tree.specs.Verdict.{Verdict, accepted, refused, numberOf, verdictOf}
+use Rattle.tree.specs.Verdict.{Verdict, accepted, refused, verdictOf}
 use Rattle.tree.specs.Tests.{verdict, sheetTests}
 use Rattle.tree.specs.Preorder.{preorderNumber, size, tour}
 use Rattle.tree.specs.Buffers.{none, labelCells, tourCells, liftCells}
 use Rattle.tree.specs.Labels.{inlabel, ascendant, head, labelTable}
-use Rattle.tree.specs.Tables.{Lent, own}
+use Rattle.tree.specs.Tables.{own}
 use Rattle.tree.specs.Routes.{byLabels, byTour}
 use Rattle.tree.specs.Trail.{trail, rowCells, byLifts, lifts, liftCount}
 

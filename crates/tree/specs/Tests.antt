@@ -2,6 +2,7 @@
 -- Row 12, "illegible", is about lines of text, and stands with the program's forms.
 -- Assumes nothing.
 use Prim.Native.Nat.{ℕ, suc}
+use mathlib.Core.Path.{_≡_}
 use mathlib.Core.Bool.{Bool, cond, not}
 use mathlib.Core.List.{List, [], _∷_}
 use lib.Dec.{leb, ltb, eqb}
@@ -28,24 +29,24 @@ abbrev pub lowestBad : ℕ → (ℕ → Bool) → ℕ → Test
 lowestBad number bad n = record { number = number; passes = eqb (least bad n) n; place = least bad n }
 
 -- 1 "bare": n is 0
-unfoldable pub bare : List ℕ → Test
-bare s = record { number = 1; passes = ltb 0 (length s); place = 0 }
+unfoldable pub empty : List ℕ → Test
+empty s = record { number = 1; passes = ltb 0 (length s); place = 0 }
 
 -- 2 "oversize": n above the limit
-unfoldable pub oversize : ℕ → List ℕ → Test
-oversize limit s = record { number = 2; passes = leb (length s) limit; place = 0 }
+unfoldable pub tooLarge : ℕ → List ℕ → Test
+tooLarge limit s = record { number = 2; passes = leb (length s) limit; place = 0 }
 
 -- 3 "misfit": a lent buffer hasn't its exact length, at the lowest buffer. 0 says that all fit
-unfoldable pub misfit : ℕ → Test
-misfit buffer = record { number = 3; passes = eqb buffer 0; place = buffer }
+unfoldable pub wrongLength : ℕ → Test
+wrongLength buffer = record { number = 3; passes = eqb buffer 0; place = buffer }
 
 -- 4 "off sheet": an entry is n or more, at the lowest such part
-unfoldable pub offSheet : List ℕ → Test
-offSheet s = lowestBad 4 (λ v. leb (length s) (parent s v)) (length s)
+unfoldable pub parentOutOfRange : List ℕ → Test
+parentOutOfRange s = lowestBad 4 (λ v. leb (length s) (parent s v)) (length s)
 
 -- 5 "rootless": no part names itself
-unfoldable pub rootless : List ℕ → Test
-rootless s = record { number = 5; passes = ltb (rootOf s) (length s); place = 0 }
+unfoldable pub noRoot : List ℕ → Test
+noRoot s = record { number = 5; passes = ltb (rootOf s) (length s); place = 0 }
 
 -- 6 "second root": two or more name themselves, at the second lowest of them
 unfoldable pub secondRoot : List ℕ → Test
@@ -58,8 +59,8 @@ unfoldable pub cycle : List ℕ → Test
 cycle s = lowestBad 7 (λ v. not (isRoot s (climb s (length s) v))) (length s)
 
 -- 8 "stale": a cell of a lent table isn't this sheet's, at the first such cell from 0, the lent tables end to end
-unfoldable pub stale : Lent → Test
-stale t =
+unfoldable pub staleTable : Lent → Test
+staleTable t =
     let mine = endToEnd (own (t .parents)) in
     lowestBad 8 (λ i. not (eqb (getD (endToEnd t) i 0) (getD mine i 0))) (length mine)
 
@@ -68,12 +69,12 @@ unfoldable pub nothingListed : List ℕ → Test
 nothingListed question = record { number = 9; passes = ltb 0 (length question); place = 0 }
 
 -- 10 "no such part": a listed number is n or more, at the first such position, from 0
-unfoldable pub noSuchPart : List ℕ → List ℕ → Test
-noSuchPart s question = lowestBad 10 (λ i. leb (length s) (getD question i 0)) (length question)
+unfoldable pub nodeOutOfRange : List ℕ → List ℕ → Test
+nodeOutOfRange s question = lowestBad 10 (λ i. leb (length s) (getD question i 0)) (length question)
 
 -- 11 "adrift": listed parts have no common carrier
-unfoldable pub adrift : List ℕ → List ℕ → Test
-adrift s question = record { number = 11; passes = ltb (least (isCommon s question) (length s)) (length s); place = 0 }
+unfoldable pub noCommonAncestor : List ℕ → List ℕ → Test
+noCommonAncestor s question = record { number = 11; passes = ltb (least (isCommon s question) (length s)) (length s); place = 0 }
 
 -- "n is 1 to 16,384 in the library"
 abbrev pub limit : ℕ
@@ -81,8 +82,12 @@ limit = 16384
 
 -- the tests that a sheet is one rooted tree, 4 to 7
 abbrev pub treeTests : List ℕ → List Test
-treeTests s = offSheet s ∷ rootless s ∷ secondRoot s ∷ cycle s ∷ []
+treeTests s = parentOutOfRange s ∷ noRoot s ∷ secondRoot s ∷ cycle s ∷ []
 
 -- the tests of a sheet, 1 to 7, of a call whose lowest buffer that does not fit is `buffer`
 abbrev pub sheetTests : List ℕ → ℕ → List Test
-sheetTests s buffer = bare s ∷ oversize limit s ∷ misfit buffer ∷ treeTests s
+sheetTests s buffer = empty s ∷ tooLarge limit s ∷ wrongLength buffer ∷ treeTests s
+
+-- a sheet that is accepted where the buffers fit
+abbrev pub Accepted : List ℕ → Type 0
+Accepted s = verdict (sheetTests s 0) ≡ accepted

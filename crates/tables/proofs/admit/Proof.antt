@@ -7,26 +7,26 @@ use borrow.Author.Needs.{needs}
 use lib.Dec.{lit≤}
 use lib.ListN.{replicate}
 use Rattle.tree.specs.Tests.{treeTests}
-use Rattle.tree.proofs.Answers.{refused-bare, refused-oversize, refused-misfit, tree-decides, work-kept, work-zero, tree-later}
+use Rattle.tree.proofs.Answers.{refused-empty, refused-too-large, refused-wrong-length, tree-decides, work-kept, work-zero, tree-later}
 use Rattle.tables.proofs.admit.Statement.{statement}
 use Rattle.tables.proofs.admit.Tie as tie
 
 returns : tie.Need-returns
 returns c =
-    let e = refused-bare _ (c .before .before .before .args .misfit) (c .if1 .taken) in
+    let e = refused-empty _ (c .before .before .before .args .unfit) (c .if1 .taken) in
     record { outcome = sym e; work = work-kept _ 1 0 _ e (lit≤ tt) }
 
 returns-2 : tie.Need-returns-2
 returns-2 c =
     let s = c .before .before .before .before in
-    let e = refused-oversize _ (s .args .misfit) (pos-of-ne-zero (c .before .if1 .left)) (c .if2 .taken) in
+    let e = refused-too-large _ (s .args .unfit) (pos-of-ne-zero (c .before .if1 .left)) (c .if2 .taken) in
     record { outcome = sym e; work = work-kept _ 2 0 _ e (lit≤ tt) }
 
 returns-3 : tie.Need-returns-3
 returns-3 c =
     let s = c .before .before .before .before .before in
-    let e = refused-misfit _ (s .args .misfit) (pos-of-ne-zero (c .before .before .if1 .left)) (c .before .if2 .left) (c .if3 .taken) in
-    record { outcome = sym e; work = work-kept _ 3 (s .args .misfit) _ e (lit≤ tt) }
+    let e = refused-wrong-length _ (s .args .unfit) (pos-of-ne-zero (c .before .before .if1 .left)) (c .before .if2 .left) (c .if3 .taken) in
+    record { outcome = sym e; work = work-kept _ 3 (s .args .unfit) _ e (lit≤ tt) }
 
 clear-requires : tie.Need-clear-requires
 clear-requires c κs = search needs
@@ -51,7 +51,7 @@ returns-4 c =
     let d = r .before .before .before .before in
     let s = d .before .before .before .before .before .before .before in
     let l = d .before .before in
-    let e = tree-decides _ (s .args .misfit) (pos-of-ne-zero (l .before .before .if1 .left)) (l .before .if2 .left) (l .if3 .left) in
+    let e = tree-decides _ (s .args .unfit) (pos-of-ne-zero (l .before .before .if1 .left)) (l .before .if2 .left) (l .if3 .left) in
     let same = r .test-tree .kept .1 .0 ∙ d .clear .kept .0 in
     record {
       outcome = r .test-tree .ensures ∙ sym e;

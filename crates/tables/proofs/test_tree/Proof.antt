@@ -8,9 +8,9 @@ use borrow.Author.Needs.{needs}
 use lib.ListN.{length}
 use Rattle.tree.specs.Tree.{nextRoot, rootOf}
 use Rattle.tree.specs.Verdict.{refused}
-use Rattle.tree.specs.Tests.{offSheet}
+use Rattle.tree.specs.Tests.{parentOutOfRange}
 use Rattle.tree.proofs.Roots.{root-of-next}
-use Rattle.tree.proofs.Answers.{refused-off-sheet, refused-rootless, refused-second-root, refused-cycle, accepted-tree-tests}
+use Rattle.tree.proofs.Answers.{refused-out-of-range, refused-no-root, refused-second-root, refused-cycle, accepted-tree-tests}
 use Rattle.tables.specs.Stamps.{OneRoot}
 use Rattle.tables.proofs.Climbing.{one-root}
 use Rattle.tables.proofs.test_tree.Statement.{statement}
@@ -21,8 +21,8 @@ abbrev sheet : tie.Start → List ℕ
 sheet c = c .args .parents .now
 
 -- no entry is off it
-entries : (c : tie.Else1) → length (sheet (c .before .before .before .before)) ≤ offSheet (sheet (c .before .before .before .before)) .place
-entries c = rw (c .before .off-sheet .ensures) at (c .if1 .left)
+entries : (c : tie.Else1) → length (sheet (c .before .before .before .before)) ≤ parentOutOfRange (sheet (c .before .before .before .before)) .place
+entries c = rw (c .before .out-of-range .ensures) at (c .if1 .left)
 
 -- root is its lowest part that names itself
 root : (c : tie.After-next-root) → c .next-root .result ≡ rootOf (sheet (c .before .before .before .before .before))
@@ -41,19 +41,19 @@ none : (c : tie.Else3)
     ≤ nextRoot (sheet (c .before .before .before .before .before .before .before .before)) (suc (rootOf (sheet (c .before .before .before .before .before .before .before .before))))
 none c = rw (second (c .before)) at (c .if3 .left)
 
-off-sheet-requires : tie.Need-off-sheet-requires
-off-sheet-requires c κs = search needs
+out-of-range-requires : tie.Need-out-of-range-requires
+out-of-range-requires c κs = search needs
 
 returns : tie.Need-returns
 returns c =
-    let e = c .before .off-sheet .ensures in
-    ap (refused 4) e ∙ sym (refused-off-sheet _ (rw e at (c .if1 .taken)))
+    let e = c .before .out-of-range .ensures in
+    ap (refused 4) e ∙ sym (refused-out-of-range _ (rw e at (c .if1 .taken)))
 
 next-root-requires : tie.Need-next-root-requires
 next-root-requires c κs = search needs
 
 returns-2 : tie.Need-returns-2
-returns-2 c = sym (refused-rootless _ (entries (c .before .before)) (rw (root (c .before)) at (c .if2 .taken)))
+returns-2 c = sym (refused-no-root _ (entries (c .before .before)) (rw (root (c .before)) at (c .if2 .taken)))
 
 add-next-root : tie.Need-add-next-root
 add-next-root c = search needs
@@ -94,7 +94,7 @@ pub test-tree-spec : {M : Type 1} → statement M
 test-tree-spec =
     tie.close
     (tie.spec
-    off-sheet-requires
+    out-of-range-requires
     returns
     next-root-requires
     returns-2

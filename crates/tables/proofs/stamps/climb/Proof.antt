@@ -1,10 +1,10 @@
 -- `tables::stamps::climb` meets its contract. The invariant: some number of steps has led to u. Each turn leaves one cell fewer at 0.
 -- Assumes nothing.
-use Prim.Native.Nat.{ℕ, suc, _<_}
+use Prim.Native.Nat.{ℕ, suc}
 use native.Mathlib.Omega.{arith}
 use mathlib.Core.Path.{_≡_}
 use borrow.Author.Needs.{needs}
-use lib.ListN.{length, getD, set, length-set}
+use lib.ListN.{length, length-set}
 use Rattle.tree.specs.Tree.{parent}
 use Rattle.tables.proofs.Climbing.{Climbing, climbing-start, climbing-step, climbing-end, blanks, blanks-less}
 use Rattle.tables.proofs.stamps.climb.Statement.{statement}

@@ -1,4 +1,4 @@
--- `tables::scan::off_sheet` meets its contract: the entries passed are all below n.
+-- `tables::scan::out_of_range` meets its contract: the entries passed are all below n.
 -- Assumes nothing.
 use Prim.Native.Nat.{ℕ, _-_, _≤_, _<_}
 use native.Mathlib.Nat.{not-suc-le-zero}
@@ -6,9 +6,9 @@ use native.Mathlib.Omega.{arith}
 use borrow.Author.Count.{below-more}
 use borrow.Author.Needs.{needs}
 use lib.ListN.{length, getD}
-use Rattle.tree.proofs.Places.{off-sheet-place}
-use Rattle.tables.proofs.scan.off_sheet.Statement.{statement}
-use Rattle.tables.proofs.scan.off_sheet.Tie as tie
+use Rattle.tree.proofs.Places.{out-of-range-place}
+use Rattle.tables.proofs.scan.out_of_range.Statement.{statement}
+use Rattle.tables.proofs.scan.out_of_range.Tie as tie
 
 abbrev Inv-loop : tie.InvT-loop
 Inv-loop parents n v₀ v = (v ≤ length parents) × ((j : ℕ) → j < v → getD parents j 0 < length parents)
@@ -29,7 +29,7 @@ cast-if1 : tie.Need-cast-if1 Inv-loop μ-loop
 cast-if1 c = omega (arith, c .shared-slice-known .given (c .before .before .loop .v))
 
 returns : tie.Need-returns Inv-loop μ-loop
-returns c = off-sheet-place _ _ (omega arith) (c .before .before .before .loop .inv .1) (λ _. c .if1 .taken)
+returns c = out-of-range-place _ _ (omega arith) (c .before .before .before .loop .inv .1) (λ _. c .if1 .taken)
 
 add-v : tie.Need-add-v Inv-loop μ-loop
 add-v c = search needs
@@ -41,10 +41,10 @@ loop-again : tie.Need-loop-again Inv-loop μ-loop
 loop-again c = (search needs, below-more _ _ (c .before .before .before .loop .inv .1) (c .if1 .left))
 
 returns-2 : tie.Need-returns-2 Inv-loop μ-loop
-returns-2 c = off-sheet-place _ _ (c .before .loop .inv .0) (c .before .loop .inv .1) (λ h. absurd (omega arith))
+returns-2 c = out-of-range-place _ _ (c .before .loop .inv .0) (c .before .loop .inv .1) (λ h. absurd (omega arith))
 
-pub off-sheet-spec : {M : Type 1} → statement M
-off-sheet-spec =
+pub out-of-range-spec : {M : Type 1} → statement M
+out-of-range-spec =
     tie.close
     (tie.spec
     Inv-loop
