@@ -1,5 +1,5 @@
 -- Numbers as rows of binary digits: the definitions that the contracts of this crate cite.
--- What they are to xor, and and the count of ones is the toolchain's: `bitXor`, `bitAnd` of `lib.Bits`, `ones` of `lib.Count`.
+-- Xor, and and the count of ones are the toolchain's own: `bitXor` and `bitAnd` of `lib.Bits`, `ones` of `lib.Count`.
 -- Assumes nothing.
 use Prim.Native.Nat.{ℕ, zero, suc, _*_, _/_, _%_, _^_, _<_}
 use mathlib.Core.Path.{_≡_}

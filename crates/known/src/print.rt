@@ -33,10 +33,11 @@ pub fn verdict(r: Outcome) {
     match r {
         Outcome::Accepted => text(b": accepted"),
         Outcome::Refused(why) => {
+            let shown = why.number_and_place();
             text(b": refused ");
-            number(why.number() as u64);
+            number(shown.number as u64);
             text(b" at ");
-            number(why.place() as u64);
+            number(shown.place as u64);
         }
     }
 }

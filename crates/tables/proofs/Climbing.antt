@@ -16,9 +16,8 @@ use Rattle.tree.specs.Tree.{parent, climb, isRoot, nextRoot, rootOf, MeetsRoot}
 use Rattle.tree.specs.Tests.{parentOutOfRange}
 use Rattle.tree.proofs.Scans.{by-test, by-equal, count-less}
 use Rattle.tree.proofs.Climbs.{Inside, climb-zero, climb-add, climb-suc, climb-round}
-use Rattle.tree.proofs.Roots.{is-root, root-is, root-of, no-second}
+use Rattle.tree.proofs.Roots.{is-root, root-is, root-of, no-second, meets-by-n}
 use Rattle.tree.proofs.Places.{entries-inside-place}
-use Rattle.tree.proofs.Acceptance.{meets-by-n}
 use Rattle.tables.specs.Stamps.{OneRoot, Unstamped, Stamped, Climbed}
 
 -- what a cell says after k steps of the climb from v: its part has not been met, was passed on this climb, or meets the root

@@ -7,7 +7,7 @@ ghost use Rattle.tree.specs.Tree.{nextRoot};
 ghost use Rattle.tree.specs.Tests.{parentOutOfRange};
 
 // Fills a buffer with zeros.
-pub fn clear(buffer: &mut [u16])
+pub(crate) fn clear(buffer: &mut [u16])
     ensures { λ _. ⌜ now (buffer .exit) ≡ replicate (length (now (buffer .entry))) 0 ⌝ }
 {
     let mut i = 0;
@@ -18,7 +18,7 @@ pub fn clear(buffer: &mut [u16])
 }
 
 // The lowest part whose entry is no part; the number of parts where there is none.
-pub fn out_of_range(parents: &[u16]) -> usize
+pub(crate) fn out_of_range(parents: &[u16]) -> usize
     ensures { λ r. ⌜ r ≡ parentOutOfRange (now (parents .entry)) .place ⌝ }
 {
     let n = parents.len();
@@ -33,7 +33,7 @@ pub fn out_of_range(parents: &[u16]) -> usize
 }
 
 // The lowest part from `first` on that names itself; the number of parts where there is none.
-pub fn next_root(parents: &[u16], first: usize) -> usize
+pub(crate) fn next_root(parents: &[u16], first: usize) -> usize
     requires { ⌜ first ≤ length (now parents) ⌝ }
     ensures { λ r. ⌜ r ≡ nextRoot (now (parents .entry)) first ⌝ }
 {

@@ -9,7 +9,7 @@ ghost use Rattle.tables.specs.Stamps.{Unstamped, Climbs, Climbed};
 const KNOWN: u16 = 65535;
 
 // The lowest part whose climb never meets the root; the number of parts where there is none.
-pub fn first_cycle(parents: &[u16], root: usize, work: &mut [u16]) -> usize
+pub(crate) fn first_cycle(parents: &[u16], root: usize, work: &mut [u16]) -> usize
     requires { ⌜ Unstamped (now parents) (now work) root ⌝ }
     ensures { λ r. ⌜ r ≡ cycle (now (parents .entry)) .place ⌝ }
 {

@@ -1,44 +1,35 @@
 -- A sheet that is accepted is one rooted tree, and one rooted tree of at most 16,384 parts is accepted.
 -- Assumes nothing.
-use Prim.Native.Nat.{ℕ, _-_, _≤_, _<_}
+use Prim.Native.Nat.{ℕ, _≤_, _<_}
+use native.Mathlib.Nat.{le-of-eq}
 use native.Mathlib.Omega.{arith}
 use mathlib.Core.Path.{_≡_, refl, sym, ap, _∙_}
 use mathlib.Core.Bool.{Bool, true, false, not}
 use mathlib.Core.List.{List}
-use borrow.Author.Tests.{lt-ltb, le-leb, lt-leb, eq-eqb, ltb-true, leb-false, leb-true, eqb-true, not-false}
+use borrow.Author.Tests.{lt-ltb, le-leb, lt-leb, eq-eqb, ltb-true, leb-true, eqb-true, not-false}
 use lib.ListN.{length}
 use Rattle.tree.specs.Scan.{least}
 use Rattle.tree.specs.Tree.{parent, climb, isRoot, rootOf, MeetsRoot, Tree}
 use Rattle.tree.specs.Tests.{lowestBad, empty, tooLarge, wrongLength, parentOutOfRange, noRoot, secondRoot, cycle, limit, sheetTests, Accepted}
-use Rattle.tree.proofs.Scans.{least-here, least-before, least-none}
-use Rattle.tree.proofs.Climbs.{Inside, climb-split, climb-stays, climb-inside, met-soon}
-use Rattle.tree.proofs.Roots.{is-root, root-is, root-of, no-second, second-none}
+use Rattle.tree.proofs.Scans.{least-before, least-none}
+use Rattle.tree.proofs.Climbs.{Inside, climb-inside}
+use Rattle.tree.proofs.Roots.{is-root, root-is, root-of, no-second, second-none, meets-by-n}
+use Rattle.tree.proofs.Places.{entries-inside-place}
 use Rattle.tree.proofs.Trees.{root-found}
 use Rattle.tree.proofs.Verdicts.{passed-accepted, accepted-passed}
 
 -- ---- a test for the lowest bad number
 
-pub none-bad : (number : ℕ) (bad : ℕ → Bool) (n : ℕ) → ((i : ℕ) → i < n → bad i ≡ false) → lowestBad number bad n .passes ≡ true
+none-bad : (number : ℕ) (bad : ℕ → Bool) (n : ℕ) → ((i : ℕ) → i < n → bad i ≡ false) → lowestBad number bad n .passes ≡ true
 none-bad number bad n h = eq-eqb _ _ (least-none bad n h)
 
-pub no-bad : (number : ℕ) (bad : ℕ → Bool) (n : ℕ) → lowestBad number bad n .passes ≡ true → (i : ℕ) → i < n → bad i ≡ false
+no-bad : (number : ℕ) (bad : ℕ → Bool) (n : ℕ) → lowestBad number bad n .passes ≡ true → (i : ℕ) → i < n → bad i ≡ false
 no-bad number bad n e i h = let all : least bad n ≡ n = eqb-true _ _ e in least-before bad n i (omega arith)
 
--- ---- "a part's climb never meets the root"
-
--- a climb that meets the root has met it after n steps
-pub meets-by-n : (s : List ℕ) → Inside s → (v : ℕ) → v < length s → MeetsRoot s v → isRoot s (climb s (length s) v) ≡ true
-meets-by-n s inside v h m =
-    let p : ℕ → Bool = λ k. isRoot s (climb s k v) in
-    let soon : least p (length s) < length s = met-soon s inside (isRoot s) v (m .steps) h (m .meets) in
-    let k : ℕ = least p (length s) in
-    let there : parent s (climb s k v) ≡ climb s k v = root-is s (climb s k v) (least-here p (length s) soon) in
-    let same : climb s (length s) v ≡ climb s k v =
-    climb-split s k (length s - k) (length s) v (omega arith) ∙ climb-stays s (length s - k) (climb s k v) there in
-    is-root s (climb s (length s) v) (ap (parent s) same ∙ there ∙ sym same)
+-- ---- climbs that meet the root
 
 -- on a tree every climb does
-pub tree-meets : {s : List ℕ} (t : Tree s) (v : ℕ) → v < length s → MeetsRoot s v
+tree-meets : {s : List ℕ} (t : Tree s) (v : ℕ) → v < length s → MeetsRoot s v
 tree-meets {s} t v h =
     let up = t .reach v h in
     record { steps = up .steps; meets = ap (isRoot s) (up .reaches) ∙ is-root s (t .root) (t .root-itself) }
@@ -46,30 +37,30 @@ tree-meets {s} t v h =
 -- ---- what each test of a sheet says where it passes
 
 -- 4: every entry is below n
-pub entries-inside : (s : List ℕ) → parentOutOfRange s .passes ≡ true → Inside s
+entries-inside : (s : List ℕ) → parentOutOfRange s .passes ≡ true → Inside s
 unfolding parentOutOfRange
-entries-inside s e v h = leb-false (length s) (parent s v) (no-bad 4 _ (length s) e v h)
+entries-inside s e = entries-inside-place s (le-of-eq (sym (eqb-true _ _ e)))
 
-pub inside-passes : (s : List ℕ) → Inside s → parentOutOfRange s .passes ≡ true
+inside-passes : (s : List ℕ) → Inside s → parentOutOfRange s .passes ≡ true
 unfolding parentOutOfRange
 inside-passes s inside = none-bad 4 _ (length s) (λ v h. lt-leb (length s) (parent s v) (inside v h))
 
 -- 5: some part names itself
-pub root-below : (s : List ℕ) → noRoot s .passes ≡ true → rootOf s < length s
+root-below : (s : List ℕ) → noRoot s .passes ≡ true → rootOf s < length s
 unfolding noRoot
 root-below s e = ltb-true _ _ e
 
 -- 6: no other part does
-pub root-alone : (s : List ℕ) → rootOf s < length s → secondRoot s .passes ≡ true → (v : ℕ) → v < length s → parent s v ≡ v → v ≡ rootOf s
+root-alone : (s : List ℕ) → rootOf s < length s → secondRoot s .passes ≡ true → (v : ℕ) → v < length s → parent s v ≡ v → v ≡ rootOf s
 unfolding secondRoot
 root-alone s below e = no-second s below (leb-true _ _ e)
 
 -- 7: every climb meets the root
-pub all-meet : (s : List ℕ) → cycle s .passes ≡ true → (v : ℕ) → v < length s → MeetsRoot s v
+all-meet : (s : List ℕ) → cycle s .passes ≡ true → (v : ℕ) → v < length s → MeetsRoot s v
 unfolding cycle
 all-meet s e v h = record { steps = length s; meets = not-false _ (no-bad 7 _ (length s) e v h) }
 
-pub meet-passes : (s : List ℕ) → Inside s → ((v : ℕ) → v < length s → MeetsRoot s v) → cycle s .passes ≡ true
+meet-passes : (s : List ℕ) → Inside s → ((v : ℕ) → v < length s → MeetsRoot s v) → cycle s .passes ≡ true
 unfolding cycle
 meet-passes s inside all = none-bad 7 _ (length s) (λ v h. ap not (meets-by-n s inside v h (all v h)))
 

@@ -4,32 +4,15 @@ use Prim.Native.Nat.{ℕ, _-_, _≤_, _<_}
 use native.Mathlib.Nat.{not-suc-le-zero}
 use native.Mathlib.Omega.{arith}
 use mathlib.Core.Path.{_≡_, refl, sym, ap, _∙_}
-use mathlib.Core.Bool.{Bool, true, false≢true}
-use mathlib.Core.Logic.{⊎-elim}
-use mathlib.Core.List.{List, [], _∷_, List·Memᴰ, List·Memᴰ·head, List·Memᴰ·tail, List·Memᴰ·not-nil, List·Memᴰ·cases-cons}
+use mathlib.Core.Bool.{Bool, true}
+use mathlib.Core.List.{List, [], _∷_, List·Memᴰ, List·Memᴰ·head}
 use lib.ListN.{length}
-use Rattle.tree.specs.Scan.{least, every}
+use Rattle.tree.specs.Scan.{least}
 use Rattle.tree.specs.Tree.{climb, isAncestor, level, Tree}
 use Rattle.tree.specs.Lca.{Parts, Common, Lca, isCommon, lca}
-use Rattle.tree.proofs.Scans.{by-test, least-here, least-at-most}
+use Rattle.tree.proofs.Scans.{least-here, least-at-most, every-true, true-every}
 use Rattle.tree.proofs.Climbs.{climb-split, ancestor-inside, met-soon, ancestor-test, test-ancestor}
 use Rattle.tree.proofs.Trees.{climb-level, ancestor-antisym}
-
--- ---- the test of a whole list
-
-every-true : (p : ℕ → Bool) (xs : List ℕ) → ((x : ℕ) → List·Memᴰ x xs → p x ≡ true) → every p xs ≡ true
-unfolding every
-every-true p [] h = refl
-every-true p (x ∷ xs) h = rw (h x (List·Memᴰ·head refl)) (every-true p xs (λ y m. h y (List·Memᴰ·tail m)))
-
-true-every : (p : ℕ → Bool) (xs : List ℕ) → every p xs ≡ true → (x : ℕ) → List·Memᴰ x xs → p x ≡ true
-unfolding every
-true-every p [] e x m = absurd (List·Memᴰ·not-nil m)
-true-every p (y ∷ ys) e x m =
-    let rest = true-every p ys in
-    by-test (p y)
-    (λ here. ⊎-elim (λ q. ap p q ∙ here) (λ n. rest (rw here at e) x n) (List·Memᴰ·cases-cons m))
-    (λ none. absurd (false≢true (rw none at e)))
 
 module _ {s : List ℕ} (t : Tree s) where
   common-test : (xs : List ℕ) (c : ℕ) → Parts s xs → Common s xs c → isCommon s xs c ≡ true

@@ -1,18 +1,24 @@
+-- The laws about the definitions of specs/, for the crates above to cite. Claims says what is shown in document 01's words.
+-- searching, counting, the best of a list, different numbers
 pub mod Scans
+pub mod Bests
+pub mod Orders
 pub mod Pigeonhole
+-- climbing, roots, levels, lowest common ancestors
 pub mod Climbs
 pub mod Roots
 pub mod Trees
 pub mod Lcas
+-- preorder and the labels
 pub mod Precedes
-pub mod Orders
 pub mod PreorderList
 pub mod Preorders
-pub mod Bests
 pub mod Inlabels
+-- the tests of a sheet
 pub mod Verdicts
-pub mod Acceptance
 pub mod Places
 pub mod Answers
+pub mod Acceptance
+-- what is shown
 pub mod Claims
 pub mod Known

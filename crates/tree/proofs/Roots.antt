@@ -1,15 +1,17 @@
--- The parts that name themselves, in rising number: what `nextRoot` finds.
+-- The parts that name themselves: what `nextRoot` finds, and the climbs that meet them.
 -- Assumes nothing.
 use Prim.Native.Nat.{ℕ, suc, _-_, _≤_, _<_, zero-le}
 use native.Mathlib.Omega.{arith}
-use mathlib.Core.Path.{_≡_, refl}
+use mathlib.Core.Path.{_≡_, refl, sym, ap, _∙_}
 use mathlib.Core.Logic.{_≢_}
-use mathlib.Core.Bool.{true}
+use mathlib.Core.Bool.{Bool, true}
 use mathlib.Core.List.{List}
 use borrow.Author.Tests.{eq-eqb, ne-eqb, eqb-true, eqb-false}
 use lib.ListN.{length}
-use Rattle.tree.specs.Tree.{parent, isRoot, nextRoot, rootOf}
-use Rattle.tree.proofs.Scans.{by-equal, by-order, least-from, least-unique}
+use Rattle.tree.specs.Scan.{least}
+use Rattle.tree.specs.Tree.{parent, climb, isRoot, nextRoot, rootOf, MeetsRoot}
+use Rattle.tree.proofs.Scans.{by-equal, by-order, least-from, least-unique, least-here}
+use Rattle.tree.proofs.Climbs.{Inside, climb-split, climb-stays, met-soon}
 
 pub is-root : (s : List ℕ) (v : ℕ) → parent s v ≡ v → isRoot s v ≡ true
 unfolding isRoot
@@ -78,3 +80,16 @@ second-none s below only =
     let g = next-root s (suc (rootOf s)) below in
     by-order (length s) (nextRoot s (suc (rootOf s))) (λ l. l)
     (λ l. let same = only (nextRoot s (suc (rootOf s))) l (g .here l) in let after = g .from in absurd (omega arith))
+
+-- ---- "a part's climb never meets the root"
+
+-- a climb that meets the root has met it after n steps
+pub meets-by-n : (s : List ℕ) → Inside s → (v : ℕ) → v < length s → MeetsRoot s v → isRoot s (climb s (length s) v) ≡ true
+meets-by-n s inside v h m =
+    let p : ℕ → Bool = λ k. isRoot s (climb s k v) in
+    let soon : least p (length s) < length s = met-soon s inside (isRoot s) v (m .steps) h (m .meets) in
+    let k : ℕ = least p (length s) in
+    let there : parent s (climb s k v) ≡ climb s k v = root-is s (climb s k v) (least-here p (length s) soon) in
+    let same : climb s (length s) v ≡ climb s k v =
+    climb-split s k (length s - k) (length s) v (omega arith) ∙ climb-stays s (length s - k) (climb s k v) there in
+    is-root s (climb s (length s) v) (ap (parent s) same ∙ there ∙ sym same)

@@ -5,12 +5,12 @@ use native.Mathlib.Nat.{le-refl, le-antisymm, not-suc-le-zero, lt-of-not-le, lt-
 use native.Mathlib.Omega.{arith}
 use native.Mathlib.Decide.{decLe, ℕ-discrete}
 use mathlib.Core.Path.{_≡_, refl, sym, ap, _∙_}
-use mathlib.Core.Logic.{_≢_}
-use mathlib.Core.Bool.{Bool, true, false, true≢false}
-use mathlib.Core.List.{List}
+use mathlib.Core.Logic.{_≢_, ⊎-elim}
+use mathlib.Core.Bool.{Bool, true, false, true≢false, false≢true}
+use mathlib.Core.List.{List, [], _∷_, List·Memᴰ, List·Memᴰ·head, List·Memᴰ·tail, List·Memᴰ·not-nil, List·Memᴰ·cases-cons}
 use borrow.Author.Tests.{eqb-true, eq-eqb}
 use lib.ListN.{length, getD}
-use Rattle.tree.specs.Scan.{leastFrom, least, count, tabulateFrom, position}
+use Rattle.tree.specs.Scan.{leastFrom, least, count, tabulateFrom, every, position}
 
 -- a test passes or fails
 pub by-test {ℓ} : {X : Type ℓ} (b : Bool) → (b ≡ true → X) → (b ≡ false → X) → X
@@ -133,6 +133,22 @@ count-less p q (suc n) i h same yes-p no-q =
     let at-n : q n ≡ p n = same n (λ g. e (sym g)) in
     let ih : count q n < count p n = earlier (omega arith) same yes-p no-q in
     rw at-n (omega arith))
+
+-- ---- a test of every member
+
+pub every-true : (p : ℕ → Bool) (xs : List ℕ) → ((x : ℕ) → List·Memᴰ x xs → p x ≡ true) → every p xs ≡ true
+unfolding every
+every-true p [] h = refl
+every-true p (x ∷ xs) h = rw (h x (List·Memᴰ·head refl)) (every-true p xs (λ y m. h y (List·Memᴰ·tail m)))
+
+pub true-every : (p : ℕ → Bool) (xs : List ℕ) → every p xs ≡ true → (x : ℕ) → List·Memᴰ x xs → p x ≡ true
+unfolding every
+true-every p [] e x m = absurd (List·Memᴰ·not-nil m)
+true-every p (y ∷ ys) e x m =
+    let rest = true-every p ys in
+    by-test (p y)
+    (λ here. ⊎-elim (λ q. ap p q ∙ here) (λ n. rest (rw here at e) x n) (List·Memᴰ·cases-cons m))
+    (λ none. absurd (false≢true (rw none at e)))
 
 -- ---- lists of values
 

@@ -82,7 +82,9 @@ cases =
     ∷ pairGives 0 6 0
     ∷ pairLifts 0 6 2
     ∷ pairRows 0 6 (0 ∷ 2 ∷ 0 ∷ 0 ∷ [])
-    -- "pair 3 6 has rows (3,5), (1,2), (0,0)"
+    -- "pair 3 6 has rows (3,5), (1,2), (0,0)"; the example above it has carrier 0 and 3 lifts
+    ∷ pairGives 3 6 0
+    ∷ pairLifts 3 6 3
     ∷ pairRows 3 6 (3 ∷ 5 ∷ 1 ∷ 2 ∷ 0 ∷ 0 ∷ [])
     -- "pair 5 6 gives 5"
     ∷ pairGives 5 6 5

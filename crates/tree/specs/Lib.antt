@@ -1,15 +1,20 @@
+-- The definitions of document 01, over the sheet alone.
 pub mod Scan
+-- "The sheet and its words"
 pub mod Tree
-pub mod Lca
-pub mod Verdict
-pub mod Tests
-pub mod Buffers
 pub mod Preorder
+pub mod Lca
+pub mod Sharing
+-- "Tables"
 pub mod Labels
 pub mod Tour
 pub mod Lifts
 pub mod Tables
 pub mod Routes
 pub mod Trail
-pub mod Sharing
+-- "Numbers on the operator's screen"
+pub mod Verdict
+pub mod Tests
+pub mod Buffers
+-- "Known sheets"
 pub mod Known

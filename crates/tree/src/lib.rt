@@ -38,44 +38,37 @@ pub enum Outcome {
     Refused(Refusal),
 }
 
-impl Refusal {
-    // The operator's number.
-    pub fn number(self) -> u16
-        ensures { λ n. ⌜ n ≡ numberOf self ⌝ }
-    {
-        match self {
-            Refusal::Empty => 1,
-            Refusal::TooLarge => 2,
-            Refusal::WrongLength(_) => 3,
-            Refusal::ParentOutOfRange(_) => 4,
-            Refusal::NoRoot => 5,
-            Refusal::SecondRoot(_) => 6,
-            Refusal::Cycle(_) => 7,
-            Refusal::StaleTable(_) => 8,
-            Refusal::NothingListed => 9,
-            Refusal::NodeOutOfRange(_) => 10,
-            Refusal::NoCommonAncestor => 11,
-            Refusal::MalformedLine(_) => 12,
-        }
-    }
+// A refusal as the operator sees it.
+pub struct Numbered {
+    pub number: u16,
+    pub place: usize,
+}
 
-    // The place; 0 where there is only one.
-    pub fn place(self) -> usize
-        ensures { λ p. ⌜ p ≡ placeOf self ⌝ }
+impl Refusal {
+    // The operator's number and place; the place is 0 where there is only one.
+    pub fn number_and_place(self) -> Numbered
+        ensures { λ r. ⌜ (r .number ≡ numberOf self) × (r .place ≡ placeOf self) ⌝ }
     {
         match self {
-            Refusal::Empty => 0,
-            Refusal::TooLarge => 0,
-            Refusal::WrongLength(buffer) => buffer,
-            Refusal::ParentOutOfRange(part) => part,
-            Refusal::NoRoot => 0,
-            Refusal::SecondRoot(part) => part,
-            Refusal::Cycle(part) => part,
-            Refusal::StaleTable(cell) => cell,
-            Refusal::NothingListed => 0,
-            Refusal::NodeOutOfRange(position) => position,
-            Refusal::NoCommonAncestor => 0,
-            Refusal::MalformedLine(line) => line,
+            Refusal::Empty => at(1, 0),
+            Refusal::TooLarge => at(2, 0),
+            Refusal::WrongLength(buffer) => at(3, buffer),
+            Refusal::ParentOutOfRange(part) => at(4, part),
+            Refusal::NoRoot => at(5, 0),
+            Refusal::SecondRoot(part) => at(6, part),
+            Refusal::Cycle(part) => at(7, part),
+            Refusal::StaleTable(cell) => at(8, cell),
+            Refusal::NothingListed => at(9, 0),
+            Refusal::NodeOutOfRange(position) => at(10, position),
+            Refusal::NoCommonAncestor => at(11, 0),
+            Refusal::MalformedLine(line) => at(12, line),
         }
     }
+}
+
+// A number at a place.
+fn at(number: u16, place: usize) -> Numbered
+    ensures { λ r. ⌜ (r .number ≡ number) × (r .place ≡ place) ⌝ }
+{
+    Numbered { number, place }
 }
