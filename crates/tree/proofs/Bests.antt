@@ -13,7 +13,7 @@ use lib.ListN.{length}
 use Rattle.tree.specs.Scan.{tabulateFrom, range, bestFrom, best}
 use Rattle.tree.proofs.Scans.{by-test, by-equal, length-tabulate-from}
 
--- ---- which relations "better" can be: one way only, and what is no better than something no better is no better
+-- ---- "less" of two numbers, as a "better": it goes one way only, and what is no less than something no less is no less
 
 pub ltb-asym : (a b : ℕ) → ltb a b ≡ true → ltb b a ≡ false
 ltb-asym a b e = le-ltb b a (le-of-lt (ltb-true a b e))
