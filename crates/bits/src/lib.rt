@@ -2,7 +2,6 @@
 // and the range that its callers need; no caller looks at how it is found.
 
 ghost use mathlib.Core.Path.{_≡_};
-ghost use Prim.Native.Nat.{_<_};
 ghost use lib.Bits.{bitXor};
 ghost use lib.Count.{ones};
 ghost use Rattle.bits.specs.Bits.{log2, lowestOne, clearBelow, bitsBelow, IsBelow};
@@ -48,19 +47,23 @@ pub fn count_ones(x: u16) -> u16
     u16::count_ones(x) as u16
 }
 
-// x with the bits below place i cleared.
+// x with the bits below place i cleared: none is left from place 16 on.
 pub fn clear_below(x: u16, i: u16) -> u16
-    requires { ⌜ i < 16 ⌝ }
     ensures { λ r. ⌜ r ≡ clearBelow i x ⌝ }
 {
+    if 15 < i {
+        return 0;
+    }
     (x >> i) << i
 }
 
-// The bits of x below place i.
+// The bits of x below place i: all of them from place 16 on.
 pub fn bits_below(x: u16, i: u16) -> u16
-    requires { ⌜ i < 16 ⌝ }
     ensures { λ r. ⌜ r ≡ bitsBelow i x ⌝ }
 {
+    if 15 < i {
+        return x;
+    }
     x & ((1 << i) - 1)
 }
 
