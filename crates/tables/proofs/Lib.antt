@@ -1,2 +1,3 @@
--- Laws about the loops of this crate. Assumes nothing.
+-- Laws about this crate's loops, and what is shown of its calls. Assumes nothing.
 pub mod Climbing
+pub mod Claims

@@ -22,7 +22,7 @@ pub record Blank (s w : List ℕ) : Type 0 where
   pub room : length s ≤ length w
   pub zero : w ≡ replicate (length w) 0
 
--- both
+-- a sheet that is both, before the first climb
 pub record Unstamped (s w : List ℕ) (r : ℕ) : Type 0 where
   pub one : OneRoot s r
   pub blank : Blank s w

@@ -5,7 +5,7 @@ ghost use mathlib.Core.Path.{_≡_};
 ghost use Rattle.tree.specs.Tests.{cycle};
 ghost use Rattle.tables.specs.Stamps.{Unstamped, Climbs, Climbed};
 
-// The root's stamp: no part has that number.
+// The root's stamp, which is no climb's.
 const KNOWN: u16 = 65535;
 
 // The lowest part whose climb never meets the root; the number of parts where there is none.
