@@ -4,7 +4,7 @@ use mathlib.Core.Path.{_≡_, refl}
 use mathlib.Core.List.{map, flatten}
 use lib.Count.{trailingZeros, ones, onesIn}
 use Rattle.bits.specs.Bits.{log2, log2In, rightmostZeros, lowestOne, clearBelow, bitsBelow}
-use Rattle.tree.specs.Scan.{least, leastFrom, count, tabulate, tabulateFrom, range, keep, every, best, bestFrom, position}
+use Rattle.tree.specs.Scan.{least, leastFrom, count, tabulate, tabulateFrom, rows, range, keep, every, best, bestFrom, position}
 use Rattle.tree.specs.Tree.{parent, climb, isAncestor, isRoot, nextRoot, rootOf, level}
 use Rattle.tree.specs.Lca.{lca, isCommon}
 use Rattle.tree.specs.Tests.{verdict, empty, tooLarge, wrongLength, parentOutOfRange, noRoot, secondRoot, cycle}
@@ -19,7 +19,7 @@ use Rattle.tree.specs.Known.{Case, cases}
 pub known : map (λ (c : Case). c .given) cases ≡ map (λ (c : Case). c .stated) cases
 unfolding trailingZeros ones onesIn flatten
     log2 log2In rightmostZeros lowestOne clearBelow bitsBelow
-    least leastFrom count tabulate tabulateFrom range keep every best bestFrom position
+    least leastFrom count tabulate tabulateFrom rows range keep every best bestFrom position
     parent climb isAncestor isRoot nextRoot rootOf level lca isCommon
     verdict empty tooLarge wrongLength parentOutOfRange noRoot secondRoot cycle
     preorderNumber size tour isChild eachChild preorderIn preorder tourIn firstVisit

@@ -76,6 +76,10 @@ answerFit cells = record { buffer = 6; fits = eqb cells 1 }
 abbrev pub trailFit : ℕ → Fit
 trailFit cells = record { buffer = 7; fits = eqb cells trailCells }
 
+-- the further buffers of a call, as it has found them: the lowest that does not fit, or 0
+abbrev pub furtherFit : ℕ → Fit
+furtherFit unfit = record { buffer = unfit; fits = eqb unfit 0 }
+
 -- the first of the lent buffers, listed by rising number, that does not fit; 0 where all fit
 unfoldable pub firstUnfit : List Fit → ℕ
 firstUnfit [] = 0

@@ -2,12 +2,12 @@
 -- Assumes nothing.
 use Prim.Native.Nat.{ℕ, zero, suc, _+_, _-_, _^_}
 use mathlib.Core.Bool.{Bool, cond}
-use mathlib.Core.List.{List, [], _∷_, map, flatten}
+use mathlib.Core.List.{List, [], _∷_}
 use lib.Bits.{bitXor}
 use lib.Dec.{ltb, eqb}
-use lib.ListN.{length}
+use lib.ListN.{length, getD}
 use Rattle.bits.specs.Bits.{log2, rightmostZeros, lowestOne, clearBelow}
-use Rattle.tree.specs.Scan.{tabulate, range, keep, best}
+use Rattle.tree.specs.Scan.{rows, range, keep, best}
 use Rattle.tree.specs.Tree.{parent, isRoot, level}
 use Rattle.tree.specs.Buffers.{none}
 use Rattle.tree.specs.Preorder.{preorderNumber, size}
@@ -54,6 +54,10 @@ head s k = best (nearerRoot s) none (keep (λ v. eqb (inlabel s v) k) (range 0 (
 abbrev pub labelColumns : List ℕ → List (ℕ → ℕ)
 labelColumns s = preorderNumber s ∷ size s ∷ level s ∷ inlabel s ∷ ascendant s ∷ (λ i. head s (suc i)) ∷ []
 
+-- column k, from 0
+abbrev pub labelColumn : List ℕ → ℕ → ℕ → ℕ
+labelColumn s k = getD (labelColumns s) k (λ _. none)
+
 -- "Label table, 6n cells, six columns of n"
 unfoldable pub labelTable : List ℕ → List ℕ
-labelTable s = flatten (map (λ column. tabulate column (length s)) (labelColumns s))
+labelTable s = rows (labelColumn s) 6 (length s)

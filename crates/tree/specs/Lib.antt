@@ -10,11 +10,13 @@ pub mod Labels
 pub mod Tour
 pub mod Lifts
 pub mod Tables
+pub mod Sections
 pub mod Routes
 pub mod Trail
 -- "Numbers on the operator's screen"
 pub mod Verdict
 pub mod Tests
+pub mod Ready
 pub mod Buffers
 -- "Known sheets"
 pub mod Known

@@ -3,7 +3,7 @@
 -- Assumes nothing.
 use Prim.Native.Nat.{ℕ, zero, suc, _+_}
 use mathlib.Core.Bool.{Bool, true, cond, _&&_}
-use mathlib.Core.List.{List, [], _∷_}
+use mathlib.Core.List.{List, [], _∷_, flatten}
 use lib.Dec.{eqb}
 use lib.ListN.{length, getD}
 
@@ -29,6 +29,10 @@ tabulateFrom f i (suc k) = f i ∷ tabulateFrom f (suc i) k
 -- f 0, .., f (n - 1)
 unfoldable pub tabulate {ℓ} : {A : Type ℓ} → (ℕ → A) → ℕ → List A
 tabulate f n = tabulateFrom f 0 n
+
+-- the rows f 0, .., f (k - 1) of w cells each, end to end
+unfoldable pub rows : (ℕ → ℕ → ℕ) → ℕ → ℕ → List ℕ
+rows f k w = flatten (tabulate (λ j. tabulate (f j) w) k)
 
 -- the k numbers from i on
 unfoldable pub range : ℕ → ℕ → List ℕ

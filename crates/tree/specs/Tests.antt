@@ -4,7 +4,7 @@
 use Prim.Native.Nat.{ℕ, suc}
 use mathlib.Core.Path.{_≡_}
 use mathlib.Core.Bool.{Bool, cond, not}
-use mathlib.Core.List.{List, [], _∷_}
+use mathlib.Core.List.{List, [], _∷_, _++_}
 use lib.Dec.{leb, ltb, eqb}
 use lib.ListN.{length, getD}
 use Rattle.tree.specs.Scan.{least}
@@ -12,6 +12,7 @@ use Rattle.tree.specs.Tree.{parent, climb, isRoot, nextRoot, rootOf}
 use Rattle.tree.specs.Lca.{isCommon}
 use Rattle.tree.specs.Verdict.{Verdict, accepted, refused}
 use Rattle.tree.specs.Tables.{Lent, own, endToEnd}
+use Rattle.tree.specs.Sections.{differ}
 
 -- a row of the table: its number, whether the call's input passes, and the place of the refusal where it does not
 pub record Test : Type 0 where
@@ -62,7 +63,7 @@ cycle s = lowestBad 7 (λ v. not (isRoot s (climb s (length s) v))) (length s)
 unfoldable pub staleTable : Lent → Test
 staleTable t =
     let mine = endToEnd (own (t .parents)) in
-    lowestBad 8 (λ i. not (eqb (getD (endToEnd t) i 0) (getD mine i 0))) (length mine)
+    lowestBad 8 (differ (endToEnd t) mine) (length mine)
 
 -- 9 "nothing listed": no pair or part given
 unfoldable pub nothingListed : List ℕ → Test
@@ -87,6 +88,10 @@ treeTests s = parentOutOfRange s ∷ noRoot s ∷ secondRoot s ∷ cycle s ∷ [
 -- the tests of a sheet, 1 to 7, of a call whose lowest buffer that does not fit is `buffer`
 abbrev pub sheetTests : List ℕ → ℕ → List Test
 sheetTests s buffer = empty s ∷ tooLarge limit s ∷ wrongLength buffer ∷ treeTests s
+
+-- the tests of a sheet with lent tables, 1 to 8
+abbrev pub lentTests : Lent → ℕ → List Test
+lentTests t buffer = sheetTests (t .parents) buffer ++ (staleTable t ∷ [])
 
 -- a sheet that is accepted where the buffers fit
 abbrev pub Accepted : List ℕ → Type 0

@@ -2,11 +2,11 @@
 -- Assumes nothing.
 use Prim.Native.Nat.{ℕ, suc, _+_, _^_}
 use mathlib.Core.Bool.{Bool, cond}
-use mathlib.Core.List.{List, _++_, flatten}
+use mathlib.Core.List.{List, _++_}
 use lib.Dec.{leb}
 use lib.ListN.{length, getD}
 use Rattle.bits.specs.Bits.{log2}
-use Rattle.tree.specs.Scan.{tabulate, range, best}
+use Rattle.tree.specs.Scan.{tabulate, rows, range, best}
 use Rattle.tree.specs.Buffers.{none, visits}
 use Rattle.tree.specs.Preorder.{tour, firstVisit}
 use Rattle.tree.specs.Labels.{nearerRoot}
@@ -23,7 +23,7 @@ sparse s j i =
 
 -- rows 0 to t of 2n−1 cells, t = log(2n−1)
 unfoldable pub sparseRows : List ℕ → List ℕ
-sparseRows s = flatten (tabulate (λ j. tabulate (sparse s j) (visits (length s))) (suc (log2 (visits (length s)))))
+sparseRows s = rows (sparse s) (suc (log2 (visits (length s)))) (visits (length s))
 
 -- "First the tour E of 2n−1 visits; then R ..; then rows 0 to t"
 unfoldable pub tourTable : List ℕ → List ℕ
