@@ -79,6 +79,14 @@ ancestor-trans {s} {a} {b} {c} p q = record {
   reaches = climb-add s (q .steps) (p .steps) c ∙ ap (climb s (p .steps)) (q .reaches) ∙ p .reaches;
 }
 
+-- what carries v and is another node carries v's parent
+pub ancestor-above : {s : List ℕ} {a v : ℕ} → Ancestor s a v → a ≢ v → Ancestor s a (parent s v)
+ancestor-above {s} {a} {v} p q = from (p .steps) (p .reaches)
+  where
+    from : (k : ℕ) → climb s k v ≡ a → Ancestor s a (parent s v)
+    from zero e = absurd (q (sym e ∙ climb-zero s v))
+    from (suc k) e = record { steps = k; reaches = ap (climb s k) (sym (climb-one s v)) ∙ sym (climb-split s 1 k (suc k) v (omega arith)) ∙ e }
+
 pub ancestor-inside : {s : List ℕ} {a v : ℕ} → Inside s → v < length s → Ancestor s a v → a < length s
 ancestor-inside {s} {a} {v} inside h p = subst (λ (x : ℕ). x < length s) (p .reaches) (climb-inside s inside (p .steps) v h)
 

@@ -1,13 +1,17 @@
 -- Lists in order: each member stands in a relation to all after it. With it, positions and membership.
 -- Assumes nothing.
 use Prim.Native.Nat.{ℕ, zero, suc, _<_, suc-le-suc}
-use native.Mathlib.Nat.{not-suc-le-zero, le-of-suc-le-suc, lt-of-le-of-lt, zero-lt-suc}
-use mathlib.Core.Path.{_≡_, refl, sym}
-use mathlib.Core.Logic.{⊎-elim}
-use mathlib.Core.List.{List, [], _∷_, _++_, List·Memᴰ, List·Memᴰ·head, List·Memᴰ·tail, List·Memᴰ·append-cases}
+use native.Mathlib.Nat.{not-suc-le-zero, le-of-suc-le-suc, lt-of-le-of-lt, zero-lt-suc, mul-zero}
+use native.Mathlib.Omega.{arith}
+use mathlib.Core.Path.{_≡_, refl, sym, subst, _∙_}
+use mathlib.Core.Logic.{_≢_, ⊎-elim}
+use mathlib.Core.Bool.{Bool, true, false, not, _&&_, and-true, and-false, and-eq-true-iff}
+use mathlib.Core.List.{List, [], _∷_, _++_, List·Memᴰ, List·Memᴰ·head, List·Memᴰ·tail, List·Memᴰ·not-nil, List·Memᴰ·cases-cons, List·Memᴰ·append-cases}
+use borrow.Author.Tests.{eq-eqb, ne-eqb, eqb-false, not-true}
+use lib.Dec.{eqb}
 use lib.ListN.{length, getD}
-use Rattle.tree.specs.Scan.{position}
-use Rattle.tree.proofs.Scans.{position-at-most}
+use Rattle.tree.specs.Scan.{count, position}
+use Rattle.tree.proofs.Scans.{by-test, position-at-most, count-constant, count-one}
 
 -- ---- membership and positions
 
@@ -45,3 +49,24 @@ module _ (R : ℕ → ℕ → Type 0) where
   ordered-at (x ∷ xs) p i zero h b = absurd (not-suc-le-zero h)
   ordered-at (x ∷ xs) p zero (suc j) h b = p .0 (getD xs j 0) (member-at xs j (le-of-suc-le-suc b))
   ordered-at (x ∷ xs) p (suc i) (suc j) h b = ordered-at xs (p .1) i j (le-of-suc-le-suc h) (le-of-suc-le-suc b)
+
+  -- different numbers, namely those below n for which p holds, are as many as are counted
+  pub ordered-count : (n : ℕ) → ((x : ℕ) → x < n → R x x → ⊥) → (p : ℕ → Bool) (l : List ℕ) → Ordered l
+      → ((x : ℕ) → List·Memᴰ x l → (x < n) × (p x ≡ true)) → ((x : ℕ) → x < n → p x ≡ true → List·Memᴰ x l) → length l ≡ count p n
+  ordered-count n irrefl p [] ordered member listed =
+      sym (count-constant p false n (λ j h. by-test (p j) (λ e. absurd (List·Memᴰ·not-nil (listed j h e))) (λ e. e)) ∙ mul-zero n)
+  ordered-count n irrefl p (x ∷ xs) ordered member listed =
+      let q : ℕ → Bool = λ j. p j && not (eqb j x) in
+      let here = member x (List·Memᴰ·head refl) in
+      let one : count p n ≡ suc (count q n) =
+      count-one p q n x (here .0) (λ j g. rw (ne-eqb j x g) (and-true (p j))) (here .1) (rw (eq-eqb x x refl) (and-false (p x))) in
+      let rest : length xs ≡ count q n =
+      ordered-count n irrefl q xs (ordered .1)
+      (λ y m.
+      let there = member y (List·Memᴰ·tail m) in
+      let other : y ≢ x = λ e. irrefl x (here .0) (subst (R x) e (ordered .0 y m)) in
+      (there .0, rw (there .1, ne-eqb y x other)))
+      (λ y h e.
+      let (a, b) = and-eq-true-iff _ _ .0 e in
+      ⊎-elim (λ g. absurd (eqb-false y x (not-true _ b) g)) (λ m. m) (List·Memᴰ·cases-cons (listed y h a))) in
+      omega arith

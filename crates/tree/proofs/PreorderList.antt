@@ -35,11 +35,11 @@ test-child s v c e =
     record { of = eqb-true _ _ a; other = eqb-false c v (not-true _ b) }
 
 -- one more child, or none
-each-child : (s : List ℕ) (v : ℕ) (visit : ℕ → List ℕ) (i : ℕ) → isChild s v i ≡ true → eachChild s v visit (suc i) ≡ eachChild s v visit i ++ visit i
+pub each-child : (s : List ℕ) (v : ℕ) (visit : ℕ → List ℕ) (i : ℕ) → isChild s v i ≡ true → eachChild s v visit (suc i) ≡ eachChild s v visit i ++ visit i
 unfolding eachChild
 each-child s v visit i e = rw e
 
-each-other : (s : List ℕ) (v : ℕ) (visit : ℕ → List ℕ) (i : ℕ) → isChild s v i ≡ false → eachChild s v visit (suc i) ≡ eachChild s v visit i
+pub each-other : (s : List ℕ) (v : ℕ) (visit : ℕ → List ℕ) (i : ℕ) → isChild s v i ≡ false → eachChild s v visit (suc i) ≡ eachChild s v visit i
 unfolding eachChild
 each-other s v visit i e = rw e (append-nil _)
 
@@ -81,7 +81,7 @@ module _ {s : List ℕ} (t : Tree s) where
   child-carried : {v c : ℕ} → Child s v c → Ancestor s v c
   child-carried {v} {c} h = rw (h .of) at (ancestor-parent s c)
 
-  child-deeper : {v c : ℕ} → c < length s → Child s v c → level s c ≡ suc (level s v)
+  pub child-deeper : {v c : ℕ} → c < length s → Child s v c → level s c ≡ suc (level s v)
   child-deeper {v} {c} h k = level-parent t c h (λ e. k .other (sym e ∙ k .of)) ∙ ap (λ (u : ℕ). suc (level s u)) (k .of)
 
   -- each member is carried

@@ -1,12 +1,12 @@
 -- Laws of `specs/Scan.antt`: what a search finds, and what a count, a list of values and a best member are.
 -- Assumes nothing.
-use Prim.Native.Nat.{ℕ, zero, suc, _+_, _≤_, _<_}
-use native.Mathlib.Nat.{le-refl, le-antisymm, not-suc-le-zero, lt-of-not-le, lt-suc-self}
+use Prim.Native.Nat.{ℕ, zero, suc, _+_, _*_, _≤_, _<_}
+use native.Mathlib.Nat.{le-refl, le-antisymm, not-suc-le-zero, lt-of-not-le, lt-suc-self, zero-mul, suc-mul}
 use native.Mathlib.Omega.{arith}
 use native.Mathlib.Decide.{decLe, ℕ-discrete}
 use mathlib.Core.Path.{_≡_, refl, sym, ap, _∙_}
 use mathlib.Core.Logic.{_≢_, ⊎-elim}
-use mathlib.Core.Bool.{Bool, true, false, true≢false, false≢true}
+use mathlib.Core.Bool.{Bool, true, false, cond, true≢false, false≢true}
 use mathlib.Core.List.{List, [], _∷_, List·Memᴰ, List·Memᴰ·head, List·Memᴰ·tail, List·Memᴰ·not-nil, List·Memᴰ·cases-cons}
 use borrow.Author.Tests.{eqb-true, eq-eqb}
 use lib.ListN.{length, getD}
@@ -117,12 +117,18 @@ unfolding count
 count-same p q zero h = refl
 count-same p q (suc n) h = rw (h n (lt-suc-self n), count-same p q n (λ j b. h j (omega arith)))
 
--- one number fewer
-pub count-less : (p q : ℕ → Bool) (n i : ℕ) → i < n → ((j : ℕ) → j ≢ i → q j ≡ p j) → p i ≡ true → q i ≡ false → count q n < count p n
+-- a test that is the same below n counts all numbers or none
+pub count-constant : (p : ℕ → Bool) (b : Bool) (n : ℕ) → ((j : ℕ) → j < n → p j ≡ b) → count p n ≡ n * cond b 1 0
 unfolding count
-count-less p q zero i h same yes-p no-q = absurd (not-suc-le-zero h)
-count-less p q (suc n) i h same yes-p no-q =
-    let earlier = count-less p q n i in
+count-constant p b zero h = sym (zero-mul (cond b 1 0))
+count-constant p b (suc n) h = rw (h n (lt-suc-self n), count-constant p b n (λ j g. h j (omega arith)), suc-mul n (cond b 1 0))
+
+-- tests that differ in one number below n count one apart
+pub count-one : (p q : ℕ → Bool) (n i : ℕ) → i < n → ((j : ℕ) → j ≢ i → q j ≡ p j) → p i ≡ true → q i ≡ false → count p n ≡ suc (count q n)
+unfolding count
+count-one p q zero i h same yes-p no-q = absurd (not-suc-le-zero h)
+count-one p q (suc n) i h same yes-p no-q =
+    let earlier = count-one p q n i in
     by-equal i n
     (λ e.
     let yes-n : p n ≡ true = ap p (sym e) ∙ yes-p in
@@ -131,8 +137,12 @@ count-less p q (suc n) i h same yes-p no-q =
     rw (yes-n, no-n, below) (omega arith))
     (λ e.
     let at-n : q n ≡ p n = same n (λ g. e (sym g)) in
-    let ih : count q n < count p n = earlier (omega arith) same yes-p no-q in
+    let ih : count p n ≡ suc (count q n) = earlier (omega arith) same yes-p no-q in
     rw at-n (omega arith))
+
+-- one number fewer
+pub count-less : (p q : ℕ → Bool) (n i : ℕ) → i < n → ((j : ℕ) → j ≢ i → q j ≡ p j) → p i ≡ true → q i ≡ false → count q n < count p n
+count-less p q n i h same yes-p no-q = let one = count-one p q n i h same yes-p no-q in omega arith
 
 -- ---- a test of every member
 

@@ -1,8 +1,8 @@
 -- Trees: LEVEL, and which part carries which, by steps and levels. Each law holds of a sheet that is one rooted tree.
 -- Assumes nothing.
-use Prim.Native.Nat.{ℕ, suc, _+_, _-_, _≤_, _<_, zero-le}
+use Prim.Native.Nat.{ℕ, zero, suc, _+_, _-_, _≤_, _<_, zero-le}
 use native.Mathlib.Omega.{arith}
-use mathlib.Core.Path.{_≡_, sym, ap, _∙_}
+use mathlib.Core.Path.{_≡_, refl, sym, ap, _∙_, subst}
 use mathlib.Core.Logic.{_≢_}
 use mathlib.Core.Bool.{true}
 use mathlib.Core.List.{List}
@@ -88,6 +88,17 @@ module _ {s : List ℕ} (t : Tree s) where
       let up : level s (climb s 1 v) ≡ level s v - 1 = level-climb v 1 h (omega arith) in
       let one : level s (climb s 1 v) ≡ level s (parent s v) = ap (level s) (climb-one s v) in
       omega arith
+
+  -- what holds of the root, and of each node whose parent it holds of, holds of every node
+  pub from-root : (P : ℕ → Type 0) → P (t .root) → ((v : ℕ) → v < length s → parent s v ≢ v → P (parent s v) → P v) → (v : ℕ) → v < length s → P v
+  from-root P root child v h = from-level (level s v) v h refl
+    where
+      from-level : (k u : ℕ) → u < length s → level s u ≡ k → P u
+      from-level zero u b e = subst P (sym (level-zero u b e)) root
+      from-level (suc k) u b e =
+          let other : parent s u ≢ u = λ g. let top : level s u ≡ 0 = ap (level s) (t .root-only u b g) ∙ level-root in absurd (omega arith) in
+          let down = level-parent u b other in
+          child u b other (from-level k (parent s u) (t .inside u b) (omega arith))
 
   -- ---- "carries", by levels
 
