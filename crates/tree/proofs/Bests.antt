@@ -1,16 +1,16 @@
--- The best member of a list: it is a member, and none is better.
+-- The best member of a list: it is a member, and none is better. With it, the members of a range and those that a test keeps.
 -- Assumes nothing.
 use Prim.Native.Nat.{ℕ, zero, suc, _+_, _≤_, _<_}
-use native.Mathlib.Nat.{not-suc-le-zero, le-trans, le-of-lt}
+use native.Mathlib.Nat.{not-suc-le-zero, le-trans, le-of-lt, add-zero, zero-add, add-suc, suc-add}
 use native.Mathlib.Omega.{arith}
-use mathlib.Core.Path.{_≡_, refl, sym, subst}
-use mathlib.Core.Bool.{Bool, true, false}
+use mathlib.Core.Path.{_≡_, refl, sym, ap, _∙_, subst}
+use mathlib.Core.Bool.{Bool, true, false, cond, true≢false}
 use mathlib.Core.Logic.{⊎-elim}
-use mathlib.Core.List.{List, [], _∷_, List·Memᴰ, List·Memᴰ·head, List·Memᴰ·tail, List·Memᴰ·not-nil, List·Memᴰ·cases-cons}
+use mathlib.Core.List.{List, [], _∷_, _++_, List·Memᴰ, List·Memᴰ·head, List·Memᴰ·tail, List·Memᴰ·not-nil, List·Memᴰ·cases-cons}
 use borrow.Author.Tests.{le-ltb, ltb-true, ltb-false}
 use lib.Dec.{ltb}
 use lib.ListN.{length}
-use Rattle.tree.specs.Scan.{tabulateFrom, range, bestFrom, best}
+use Rattle.tree.specs.Scan.{tabulateFrom, range, keep, bestFrom, best}
 use Rattle.tree.proofs.Scans.{by-test, by-equal, length-tabulate-from}
 
 -- ---- "less" of two numbers, as a "better": it goes one way only, and what is no less than something no less is no less
@@ -72,11 +72,53 @@ module _ (better : ℕ → ℕ → Bool) (asym : (x y : ℕ) → better x y ≡ 
   best-is d [] h = absurd (not-suc-le-zero h)
   best-is d (x ∷ xs) h = best-from x xs
 
+  -- ---- the best of two lists
+
+  -- x if it is better than b, else b
+  abbrev ofTwo : ℕ → ℕ → ℕ
+  ofTwo b x = cond (better x b) x b
+
+  -- of three it does not matter which two are compared first
+  of-three : (b y r : ℕ) → ofTwo (ofTwo b y) r ≡ ofTwo b (ofTwo y r)
+  of-three b y r =
+      by-test (better y b)
+      (λ e. by-test (better r y)
+      (λ f.
+      let past : better r b ≡ true = by-test (better r b) (λ g. g) (λ g. absurd (true≢false (sym e ∙ trans y r b (asym r y f) g))) in
+      rw (e, f, past))
+      (λ f. rw (e, f, e)))
+      (λ e. by-test (better r y) (λ f. rw (e, f)) (λ f. rw (e, f, e, trans r y b f e)))
+
+  best-from-two : (b y : ℕ) (ys : List ℕ) → bestFrom better (ofTwo b y) ys ≡ ofTwo b (bestFrom better y ys)
+  unfolding bestFrom
+  best-from-two b y [] = refl
+  best-from-two b y (z ∷ zs) =
+      best-from-two (ofTwo b y) z zs ∙ of-three b y (bestFrom better z zs) ∙ ap (ofTwo b) (sym (best-from-two y z zs))
+
+  best-from-append : (b : ℕ) (xs ys : List ℕ) → bestFrom better b (xs ++ ys) ≡ bestFrom better (bestFrom better b xs) ys
+  unfolding bestFrom
+  best-from-append b [] ys = refl
+  best-from-append b (x ∷ xs) ys = best-from-append (ofTwo b x) xs ys
+
+  -- the best of two lists end to end is the better of their best members, and the first's where neither is better
+  pub best-append : (d : ℕ) (xs ys : List ℕ) → 0 < length xs → 0 < length ys
+      → best better d (xs ++ ys) ≡ cond (better (best better d ys) (best better d xs)) (best better d ys) (best better d xs)
+  unfolding best bestFrom
+  best-append d [] ys h g = absurd (not-suc-le-zero h)
+  best-append d (x ∷ xs) [] h g = absurd (not-suc-le-zero g)
+  best-append d (x ∷ xs) (y ∷ ys) h g = best-from-append x xs (y ∷ ys) ∙ best-from-two (bestFrom better x xs) y ys
+
 -- ---- ranges
 
 pub length-range : (i k : ℕ) → length (range i k) ≡ k
 unfolding range
 length-range i k = length-tabulate-from (λ j. j) i k
+
+-- a range in two parts
+pub range-append : (i k l : ℕ) → range i (k + l) ≡ range i k ++ range (i + k) l
+unfolding range tabulateFrom
+range-append i zero l = rw (zero-add, add-zero)
+range-append i (suc k) l = rw (suc-add, range-append (suc i) k l, suc-add, add-suc)
 
 pub range-member : (i k x : ℕ) → List·Memᴰ x (range i k) → (i ≤ x) × (x < i + k)
 unfolding range tabulateFrom
@@ -91,3 +133,28 @@ member-range i zero x h b = absurd (omega arith)
 member-range i (suc k) x h b =
     let later = member-range (suc i) k x in
     by-equal x i (λ e. List·Memᴰ·head e) (λ e. List·Memᴰ·tail (later (omega arith) (omega arith)))
+
+-- ---- the members for which a test holds
+
+-- a member that is kept is a member, and the test holds for it
+pub keep-member : (p : ℕ → Bool) (xs : List ℕ) (x : ℕ) → List·Memᴰ x (keep p xs) → List·Memᴰ x xs × (p x ≡ true)
+unfolding keep
+keep-member p [] x m = absurd (List·Memᴰ·not-nil m)
+keep-member p (y ∷ ys) x m =
+    let later : List·Memᴰ x (keep p ys) → List·Memᴰ x (y ∷ ys) × (p x ≡ true) = λ n.
+    let r = keep-member p ys x n in
+    (List·Memᴰ·tail (r .0), r .1) in
+    by-test (p y)
+    (λ e. ⊎-elim (λ q. (List·Memᴰ·head q, ap p q ∙ e)) later (List·Memᴰ·cases-cons (rw e at m)))
+    (λ e. later (rw e at m))
+
+-- a member for which the test holds is kept
+pub member-keep : (p : ℕ → Bool) (xs : List ℕ) (x : ℕ) → List·Memᴰ x xs → p x ≡ true → List·Memᴰ x (keep p xs)
+unfolding keep
+member-keep p [] x m e = absurd (List·Memᴰ·not-nil m)
+member-keep p (y ∷ ys) x m e =
+    let later = member-keep p ys x in
+    ⊎-elim
+    (λ q. let here : p y ≡ true = ap p (sym q) ∙ e in rw here (List·Memᴰ·head q))
+    (λ n. by-test (p y) (λ f. rw f (List·Memᴰ·tail (later n e))) (λ f. rw f (later n e)))
+    (List·Memᴰ·cases-cons m)

@@ -1,0 +1,66 @@
+-- The sparse rows of the tour table: row 0 is the positions themselves, each later row follows from the one before it, and each cell that
+-- is not 65535 stands in its block. Assumes nothing.
+use Prim.Native.Nat.{ℕ, suc, _+_, _^_, _≤_, _<_}
+use native.Mathlib.Nat.{pow-suc}
+use native.Mathlib.Omega.{arith}
+use mathlib.Core.Path.{_≡_, _∙_}
+use mathlib.Core.Bool.{true, false, cond}
+use mathlib.Core.List.{List}
+use borrow.Author.Tests.{le-leb, lt-leb}
+use lib.ListN.{length, getD}
+use lib.Pow.{pow-pos}
+use Rattle.tree.specs.Scan.{tabulateFrom, range, bestFrom, best}
+use Rattle.tree.specs.Tree.{level}
+use Rattle.tree.specs.Buffers.{none, visits}
+use Rattle.tree.specs.Preorder.{tour}
+use Rattle.tree.specs.Tour.{lesserLevel, sparse}
+use Rattle.tree.proofs.Bests.{ltb-asym, ltb-trans, best-is, best-append, length-range, range-append, range-member}
+
+module _ (s : List ℕ) where
+  lesser-asym : (p q : ℕ) → lesserLevel s p q ≡ true → lesserLevel s q p ≡ false
+  lesser-asym p q = ltb-asym (level s (getD (tour s) p 0)) (level s (getD (tour s) q 0))
+
+  lesser-trans : (p q r : ℕ) → lesserLevel s p q ≡ false → lesserLevel s q r ≡ false → lesserLevel s p r ≡ false
+  lesser-trans p q r = ltb-trans (level s (getD (tour s) p 0)) (level s (getD (tour s) q 0)) (level s (getD (tour s) r 0))
+
+  -- the best position of a block that does not pass the end
+  leftmost : (j i : ℕ) → i + 2 ^ j ≤ visits (length s) → sparse s j i ≡ best (lesserLevel s) none (range i (2 ^ j))
+  unfolding sparse
+  leftmost j i h = rw (le-leb (i + 2 ^ j) (visits (length s)) h)
+
+  block : (i j : ℕ) → 0 < length (range i (2 ^ j))
+  block i j = rw length-range (pow-pos j)
+
+  -- row 0: each position is its own block
+  pub sparse-zero : (i : ℕ) → i < visits (length s) → sparse s 0 i ≡ i
+  unfolding range tabulateFrom best bestFrom
+  sparse-zero i h = leftmost 0 i (omega arith)
+
+  -- a later row: of a block's two halves, the left one's position unless the right one's has lesser LEVEL
+  pub sparse-suc : (j i : ℕ) → i + 2 ^ suc j ≤ visits (length s)
+      → sparse s (suc j) i ≡ cond (lesserLevel s (sparse s j (i + 2 ^ j)) (sparse s j i)) (sparse s j (i + 2 ^ j)) (sparse s j i)
+  sparse-suc j i h =
+      let twice : 2 ^ suc j ≡ 2 ^ j + 2 ^ j = omega (arith, pow-suc 2 j) in
+      let left = leftmost j i (omega arith) in
+      let right = leftmost j (i + 2 ^ j) (omega arith) in
+      leftmost (suc j) i h
+      ∙ rw (twice, range-append i (2 ^ j) (2 ^ j), left, right)
+      (best-append (lesserLevel s) lesser-asym lesser-trans none (range i (2 ^ j)) (range (i + 2 ^ j) (2 ^ j)) (block i j) (block (i + 2 ^ j) j))
+
+  -- 65535 where the block passes the end
+  pub sparse-end : (j i : ℕ) → visits (length s) < i + 2 ^ j → sparse s j i ≡ none
+  unfolding sparse
+  sparse-end j i h = rw (lt-leb (i + 2 ^ j) (visits (length s)) h)
+
+  inside : (j i : ℕ) → i + 2 ^ j ≤ visits (length s) → (i ≤ sparse s j i) × (sparse s j i < i + 2 ^ j)
+  inside j i h =
+      rw (leftmost j i h)
+      (range-member i (2 ^ j) _ (best-is (lesserLevel s) lesser-asym lesser-trans none (range i (2 ^ j)) (block i j) .member))
+
+  -- the position stands in its block: not before it
+  pub sparse-from : (j i : ℕ) → i + 2 ^ j ≤ visits (length s) → i ≤ sparse s j i
+  sparse-from j i h = inside j i h .0
+
+  -- .. nor after it
+  pub sparse-to : (j i : ℕ) → i + 2 ^ j ≤ visits (length s) → sparse s j i < i + 2 ^ j
+  sparse-to j i h = inside j i h .1
