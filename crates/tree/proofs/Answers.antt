@@ -1,21 +1,25 @@
--- What tests 1 to 7 answer, from what a call has found: the sizes, the lowest entry off the sheet, the root and the next root, and the lowest
--- part whose climb does not meet the root. A place is n or more where there is none. With it, what becomes of work.
+-- What tests 1 to 8 answer, from what a call has found: the sizes, the lowest entry off the sheet, the root and the next root, the lowest
+-- part whose climb does not meet the root, and the first cell of the lent tables that is not the sheet's own. A place is n or more where
+-- there is none, and the cell the tables' length. With it, what becomes of work.
 -- Assumes nothing.
 use Prim.Native.Nat.{ℕ, suc, _≤_, _<_}
-use native.Mathlib.Nat.{le-antisymm, le-of-eq, ne-of-lt}
-use mathlib.Core.Path.{_≡_, refl}
+use native.Mathlib.Nat.{le-antisymm, le-of-eq, ne-of-lt, pos-of-ne-zero}
+use mathlib.Core.Path.{_≡_, refl, sym, ap, _∙_}
 use mathlib.Core.Logic.{_≢_}
 use mathlib.Core.Bool.{Bool, true, false}
 use mathlib.Core.List.{List, [], _∷_}
-use borrow.Author.Tests.{eq-eqb, ne-eqb, lt-ltb, le-ltb, le-leb, lt-leb}
+use borrow.Author.Tests.{eq-eqb, ne-eqb, eqb-true, lt-ltb, le-ltb, le-leb, lt-leb}
 use lib.Dec.{lit<}
 use lib.ListN.{length, replicate}
 use Rattle.tree.specs.Tree.{nextRoot, rootOf}
 use Rattle.tree.specs.Verdict.{Verdict, accepted, refused}
-use Rattle.tree.specs.Tests.{Test, verdict, lowestBad, empty, tooLarge, wrongLength, parentOutOfRange, noRoot, secondRoot, cycle, limit, treeTests, sheetTests}
-use Rattle.tree.specs.Buffers.{workAfter}
-use Rattle.tree.proofs.Scans.{by-test, least-le}
-use Rattle.tree.proofs.Verdicts.{Passed, passed-accepted, passed-on, first-refused}
+use Rattle.tree.specs.Tests.{Test, verdict, lowestBad, empty, tooLarge, wrongLength, parentOutOfRange, noRoot, secondRoot, cycle, staleTable, limit, treeTests, sheetTests}
+use Rattle.tree.specs.Tables.{Lent, own, endToEnd}
+use Rattle.tree.specs.Sections.{firstDifference}
+use Rattle.tree.specs.Buffers.{workAfter, filled}
+use Rattle.tree.proofs.Scans.{by-test, by-equal, by-order, least-le}
+use Rattle.tree.proofs.Differences.{stale-place}
+use Rattle.tree.proofs.Verdicts.{Passed, passed-accepted, accepted-passed, passed-on, first-refused}
 
 -- a test for the lowest bad number passes where its place is n, and fails where it is below
 bad-passes : (number : ℕ) (bad : ℕ → Bool) (n : ℕ) → n ≤ lowestBad number bad n .place → lowestBad number bad n .passes ≡ true
@@ -90,12 +94,55 @@ module _ (s : List ℕ) where
       let (a, (b, _)) = sizes-pass h l in
       passed-on (empty s ∷ tooLarge limit s ∷ wrongLength buffer ∷ []) (treeTests s) (a, (b, (eq-eqb _ _ e, tt)))
 
+  -- a sheet of no part or of too many is refused whatever its buffers
+  pub same-verdict : (a b : ℕ) → (0 < length s → length s ≤ limit → a ≡ b) → verdict (sheetTests s a) ≡ verdict (sheetTests s b)
+  same-verdict a b e =
+      by-equal (length s) 0 (λ h. refused-empty a h ∙ sym (refused-empty b h))
+      (λ h.
+      let some = pos-of-ne-zero h in
+      by-order (length s) limit (λ l. ap (λ (buffer : ℕ). verdict (sheetTests s buffer)) (e some l))
+      (λ l. refused-too-large a some l ∙ sym (refused-too-large b some l)))
+
+  -- an accepted call has buffers that fit, and a sheet that is accepted wherever they do
+  pub accepted-fits : (buffer : ℕ) → verdict (sheetTests s buffer) ≡ accepted → buffer ≡ 0
+  unfolding wrongLength
+  accepted-fits buffer e = let (_, (_, (fits, _))) = accepted-passed (sheetTests s buffer) e in eqb-true _ _ fits
+
+-- ---- test 8
+
+module _ (t : Lent) where
+  pub stale-refused : firstDifference (endToEnd t) (endToEnd (own (t .parents))) < length (endToEnd (own (t .parents)))
+      → verdict (staleTable t ∷ []) ≡ refused 8 (firstDifference (endToEnd t) (endToEnd (own (t .parents))))
+  unfolding staleTable
+  stale-refused h = rw (← stale-place t) (first-refused [] (staleTable t) [] tt (bad-fails 8 _ _ (rw (stale-place t) h)))
+
+  pub stale-accepted : length (endToEnd (own (t .parents))) ≤ firstDifference (endToEnd t) (endToEnd (own (t .parents)))
+      → verdict (staleTable t ∷ []) ≡ accepted
+  unfolding staleTable
+  stale-accepted h = passed-accepted (staleTable t ∷ []) (bad-passes 8 _ _ (rw (stale-place t) h), tt)
+
+-- ---- the other buffers
+
+-- what is lent to be filled: an accepted call fills it, a refused one leaves it
+pub filled-own : (v : Verdict) (own before : List ℕ) → v ≡ accepted → own ≡ filled v own before
+unfolding filled
+filled-own v own before e = rw e
+
+pub filled-kept : (v : Verdict) (number place : ℕ) (own before : List ℕ) → v ≡ refused number place → before ≡ filled v own before
+unfolding filled
+filled-kept v number place own before e = rw e
+
 -- ---- work
 
 -- refusals 1 to 3 leave work unchanged
 pub work-kept : (v : Verdict) (number place : ℕ) (work : List ℕ) → v ≡ refused number place → number ≤ 3 → work ≡ workAfter v work
 unfolding workAfter
 work-kept v number place work e h = rw (e, le-leb number 3 h)
+
+-- an accepted call leaves it all zero
+pub work-accepted : (v : Verdict) (work : List ℕ) → v ≡ accepted → workAfter v work ≡ replicate (length work) 0
+unfolding workAfter
+work-accepted v work e = rw e
 
 -- the tests of a list are all after the third
 abbrev pub Later : List Test → Type 0
@@ -116,3 +163,7 @@ work-zero v ts work e l = rw e (work-cleared ts work l)
 pub tree-later : (s : List ℕ) → Later (treeTests s)
 unfolding parentOutOfRange noRoot secondRoot cycle
 tree-later s = (lit< tt, (lit< tt, (lit< tt, (lit< tt, tt))))
+
+pub stale-later : (t : Lent) → Later (staleTable t ∷ [])
+unfolding staleTable
+stale-later t = (lit< tt, tt)

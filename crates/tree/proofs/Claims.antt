@@ -1,19 +1,26 @@
 -- What is shown of document 01's definitions, in its words: of every accepted sheet, and of no other input.
 -- Assumes nothing.
-use Prim.Native.Nat.{ℕ, _≤_, _<_}
+use Prim.Native.Nat.{ℕ, _+_, _≤_, _<_}
+use native.Mathlib.Omega.{arith}
 use mathlib.Core.Path.{_≡_, _∙_}
 use mathlib.Core.Logic.{_↔_}
 use mathlib.Core.List.{List}
 use lib.ListN.{length}
-use Rattle.tree.specs.Tree.{climb, rootOf, level, Tree}
+use Rattle.tree.specs.Tree.{climb, Ancestor, rootOf, level, Tree}
 use Rattle.tree.specs.Lca.{Parts, Lca, lca}
 use Rattle.tree.specs.Tests.{limit, Accepted}
 use Rattle.tree.specs.Preorder.{Preorder, preorder, preorderNumber, size}
-use Rattle.tree.specs.Labels.{inlabel, topmost}
+use Rattle.tree.specs.Buffers.{labelCells, tourCells, liftCells}
+use Rattle.tree.specs.Labels.{inlabel, topmost, labelTable}
+use Rattle.tree.specs.Tour.{tourTable}
+use Rattle.tree.specs.Lifts.{liftTable}
 use Rattle.tree.proofs.Trees.{root-found, level-below, climb-level}
 use Rattle.tree.proofs.Lcas.{lca-found, lca-only}
 use Rattle.tree.proofs.Preorders.{preorder-meets, preorder-only}
-use Rattle.tree.proofs.Inlabels.{MostZeros, inlabel-most, inlabel-formula}
+use Rattle.tree.proofs.Inlabels.{MostZeros, size-pos, inlabel-most, inlabel-formula}
+use Rattle.tree.proofs.Intervals.{carried-from, carried-to, interval-carried}
+use Rattle.tree.proofs.Tours.{tour-length}
+use Rattle.tree.proofs.Cells.{label-length, tour-table-length, lift-length}
 use Rattle.tree.proofs.Acceptance.{accepted-tree, tree-accepted}
 
 -- "With buffers that fit, a sheet of 1 to 16,384 parts is accepted exactly if it is one rooted tree", which has at least its root
@@ -36,3 +43,19 @@ one-preorder s a = let t = accepted-tree s a .0 in (preorder-meets t, preorder-o
 pub inlabel-agrees : (s : List ℕ) → Accepted s → (v : ℕ) → v < length s
     → MostZeros (preorderNumber s v) (size s v) (inlabel s v) × (inlabel s v ≡ topmost (preorderNumber s v) (size s v))
 inlabel-agrees s a v h = let t = accepted-tree s a .0 in (inlabel-most t v h, inlabel-formula t v h)
+
+-- a part carries exactly the parts whose PREORDER is in PREORDER..PREORDER+SIZE−1
+pub carries-interval : (s : List ℕ) → Accepted s → (a v : ℕ) → a < length s → v < length s
+    → Ancestor s a v ↔ ((preorderNumber s a ≤ preorderNumber s v) × (preorderNumber s v < preorderNumber s a + size s a))
+carries-interval s e a v ha hv =
+    let t = accepted-tree s e .0 in (
+      λ p. let some = size-pos t v hv in let within = carried-to t hv p in (carried-from t hv p, omega arith),
+      λ q. interval-carried t ha hv (q .0) (q .1),
+    )
+
+-- an accepted sheet's own tables have the exact lengths that a call asks for
+pub own-tables-fit : (s : List ℕ) → Accepted s
+    → (length (labelTable s) ≡ labelCells (length s)) × (length (tourTable s) ≡ tourCells (length s)) × (length (liftTable s) ≡ liftCells (length s))
+own-tables-fit s e =
+    let t = accepted-tree s e .0 in
+    (label-length s, tour-table-length s (tour-length t), lift-length s)

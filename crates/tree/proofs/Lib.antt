@@ -1,6 +1,7 @@
 -- The laws about the definitions of specs/, for the crates above to cite. Claims says what is shown in document 01's words.
 -- searching, counting, the best of a list, different numbers
 pub mod Scans
+pub mod Rows
 pub mod Bests
 pub mod Orders
 pub mod Pigeonhole
@@ -13,11 +14,24 @@ pub mod Lcas
 pub mod Precedes
 pub mod PreorderList
 pub mod Preorders
+pub mod Sums
+pub mod Blocks
+pub mod Sizes
+pub mod Intervals
+pub mod Tours
 pub mod Inlabels
+pub mod Paths
+-- the tables' cells and rows
+pub mod Cells
+pub mod Columns
+pub mod Sparse
+pub mod Doubling
+pub mod Differences
 -- the tests of a sheet
 pub mod Verdicts
 pub mod Places
 pub mod Answers
+pub mod Fits
 pub mod Acceptance
 -- what is shown
 pub mod Claims

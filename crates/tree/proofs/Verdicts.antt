@@ -45,3 +45,15 @@ passed-on (t ∷ before) after p = verdict-pass t (before ++ after) (p .0) ∙ p
 pub first-refused : (before : List Test) (t : Test) (after : List Test) → Passed before → t .passes ≡ false
     → verdict (before ++ t ∷ after) ≡ refused (t .number) (t .place)
 first-refused before t after p e = passed-on before (t ∷ after) p ∙ verdict-fail t after e
+
+-- tests that accept leave it to those after them, and a refusal stands
+pub accepted-on : (before after : List Test) → verdict before ≡ accepted → verdict (before ++ after) ≡ verdict after
+accepted-on before after e = passed-on before after (accepted-passed before e)
+
+pub refused-on : (before after : List Test) (number place : ℕ) → verdict before ≡ refused number place → verdict (before ++ after) ≡ refused number place
+unfolding verdict
+refused-on [] after number place e = let never : accepted ≡ refused number place = e in let z : _≡_ {A = ℕ} 0 1 = cc in absurd (omega arith)
+refused-on (t ∷ before) after number place e =
+    let rest = refused-on before after number place in
+    by-test (t .passes) (λ p. verdict-pass t (before ++ after) p ∙ rest (sym (verdict-pass t before p) ∙ e))
+    (λ p. verdict-fail t (before ++ after) p ∙ sym (verdict-fail t before p) ∙ e)
