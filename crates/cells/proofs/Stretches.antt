@@ -1,0 +1,40 @@
+-- One more cell filled, copied or found equal.
+-- Assumes nothing.
+use Prim.Native.Nat.{ℕ, _+_, _<_}
+use native.Mathlib.Omega.{arith}
+use mathlib.Core.Path.{refl, ap, _∙_}
+use mathlib.Core.List.{List}
+use lib.ListN.{length, getD, set}
+use lib.Seq.{getD-set-same, getD-set-other}
+use Rattle.tree.proofs.Scans.{by-equal}
+use Rattle.tree.proofs.Differences.{same-none}
+use Rattle.cells.specs.Cells.{Filled, Copied}
+
+pub filled-none : (l : List ℕ) (i x : ℕ) → Filled l i 0 x l
+filled-none l i x = record { here = λ c h b. absurd (omega arith); below = λ c h. refl; above = λ c h. refl }
+
+pub filled-more : {before after : List ℕ} {i k x : ℕ} → i + k < length after → Filled before i k x after → Filled before i (k + 1) x (set after (i + k) x)
+filled-more {before} {after} {i} {k} {x} room f = record {
+  here = λ c h b.
+      by-equal c (i + k) (λ e. ap (λ (j : ℕ). getD (set after (i + k) x) j 0) e ∙ getD-set-same after (i + k) x 0 room)
+      (λ e. getD-set-other after (i + k) c x 0 e ∙ f .here c h (omega arith));
+  below = λ c h. getD-set-other after (i + k) c x 0 (λ e. absurd (omega arith)) ∙ f .below c h;
+  above = λ c h. getD-set-other after (i + k) c x 0 (λ e. absurd (omega arith)) ∙ f .above c (omega arith);
+}
+
+pub copied-none : (l from : List ℕ) (i j : ℕ) → Copied l i from j 0 l
+copied-none l from i j = record { here = same-none l from i j; below = λ c h. refl }
+
+pub copied-more : {before from after : List ℕ} {i j k : ℕ} → i + k < length after → Copied before i from j k after
+    → Copied before i from j (k + 1) (set after (i + k) (getD from (j + k) 0))
+copied-more {before} {from} {after} {i} {j} {k} room f =
+    let y = getD from (j + k) 0 in
+    record {
+      here = record {
+        cell = λ x h.
+            by-equal x k
+            (λ e. ap (λ (c : ℕ). getD (set after (i + k) y) (i + c) 0) e ∙ getD-set-same after (i + k) y 0 room ∙ ap (λ (c : ℕ). getD from (j + c) 0) (omega arith))
+            (λ e. getD-set-other after (i + k) (i + x) y 0 (λ q. absurd (omega arith)) ∙ f .here .cell x (omega arith));
+      };
+      below = λ c h. getD-set-other after (i + k) c y 0 (λ e. absurd (omega arith)) ∙ f .below c h;
+    }
