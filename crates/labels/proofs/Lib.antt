@@ -1,0 +1,10 @@
+-- Laws about this crate's loops. Assumes nothing.
+-- the links and the walk
+pub mod Linking
+pub mod Walking
+-- the columns made from those before them
+pub mod Labelled
+pub mod Filling
+pub mod InOrder
+pub mod Ascending
+pub mod Tops

@@ -1,0 +1,24 @@
+-- `labels::numbers` meets its contract: the links are made, and the walk follows them.
+-- Assumes nothing.
+use borrow.Author.Needs.{needs}
+use mathlib.Core.Path.{_∙_}
+use Rattle.labels.proofs.numbers.Statement.{statement}
+use Rattle.labels.proofs.numbers.Tie as tie
+
+link-requires : tie.Need-link-requires
+link-requires c κs = search needs
+
+walk-requires : tie.Need-walk-requires
+walk-requires c κs =
+    let s = c .before .before .before .before .before .before .before in
+    let k = c .before .before .before .link in
+    record { ready = record { tree = s .pre .0 .tree; small = s .pre .0 .small; room = k .kept .1 .0 ∙ s .pre .0 .room }; is = s .pre .1; links = k .ensures }
+
+same-length : tie.Need-same-length
+same-length c = search needs
+
+returns : tie.Need-returns
+returns c = search needs
+
+pub numbers-spec : {M : Type 1} → statement M
+numbers-spec = tie.close (tie.spec link-requires walk-requires same-length returns)

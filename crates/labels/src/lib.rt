@@ -1,0 +1,100 @@
+// The columns of the label table. Each is made in work from the sheet and the columns before it, for building and comparing alike: a call
+// of `tables` copies it out, or looks for the first cell that differs from it. The sheet is one rooted tree, and work has its exact length.
+
+mod along;
+mod links;
+
+ghost use mathlib.Core.Path.{_≡_};
+ghost use Prim.Native.Nat.{_+_, _*_, _≤_, _<_};
+ghost use lib.ListN.{length};
+ghost use Rattle.tree.specs.Tree.{rootOf};
+ghost use Rattle.tree.specs.Labels.{labelTable, topmost};
+ghost use Rattle.tree.specs.Sections.{Same};
+ghost use Rattle.tree.specs.Ready.{Ready, Columns};
+
+// No cell.
+const NONE: u16 = 65535;
+
+// PREORDER and SIZE, into the last 2n cells of work.
+pub fn numbers(parents: &[u16], root: usize, work: &mut [u16])
+    requires { ⌜ Ready (now parents) (now work) × (root ≡ rootOf (now parents)) ⌝ }
+    ensures { λ _. ⌜ Same (now (work .exit)) (2 * length (now (parents .entry))) (labelTable (now (parents .entry))) 0 (2 * length (now (parents .entry))) ⌝ }
+{
+    links::link(parents, work);
+    links::walk(parents, root, work);
+}
+
+// Column k, from 2 on, into the n cells of work from n on.
+pub fn column(k: usize, parents: &[u16], root: usize, label: &[u16], work: &mut [u16])
+    requires { ⌜ (2 ≤ k) × (k < 6) × Columns (now parents) (now label) (now work) k × (root ≡ rootOf (now parents)) ⌝ }
+    ensures { λ _. ⌜ Same (now (work .exit)) (length (now (parents .entry))) (labelTable (now (parents .entry))) (k * length (now (parents .entry))) (length (now (parents .entry))) ⌝ }
+{
+    if k == 2 {
+        return levels(parents, label, work);
+    }
+    if k == 3 {
+        return inlabels(parents, label, work);
+    }
+    if k == 4 {
+        return ascendants(parents, label, work);
+    }
+    heads(parents, root, label, work)
+}
+
+// LEVEL, into the n cells of work from n on.
+fn levels(parents: &[u16], label: &[u16], work: &mut [u16])
+    requires { ⌜ Columns (now parents) (now label) (now work) 2 ⌝ }
+    ensures { λ _. ⌜ Same (now (work .exit)) (length (now (parents .entry))) (labelTable (now (parents .entry))) (2 * length (now (parents .entry))) (length (now (parents .entry))) ⌝ }
+{
+    along::order(parents, label, work);
+    along::levels(parents, work);
+}
+
+// INLABEL, into the n cells of work from n on.
+fn inlabels(parents: &[u16], label: &[u16], work: &mut [u16])
+    requires { ⌜ Columns (now parents) (now label) (now work) 2 ⌝ }
+    ensures { λ _. ⌜ Same (now (work .exit)) (length (now (parents .entry))) (labelTable (now (parents .entry))) (3 * length (now (parents .entry))) (length (now (parents .entry))) ⌝ }
+{
+    let n = parents.len();
+    let mut v = 0;
+    while v < n {
+        work[n + v] = inlabel(label[v], label[n + v]);
+        v += 1;
+    }
+}
+
+// The number with most rightmost zero bits of the `size` numbers from `preorder` on.
+fn inlabel(preorder: u16, size: u16) -> u16
+    requires { ⌜ (0 < preorder) × (preorder + size ≤ 65535) ⌝ }
+    ensures { λ r. ⌜ r ≡ topmost preorder size ⌝ }
+{
+    let last = preorder + size - 1;
+    bits::clear_below(last, bits::log2(bits::xor(preorder - 1, last)))
+}
+
+// ASCENDANT, into the n cells of work from n on.
+fn ascendants(parents: &[u16], label: &[u16], work: &mut [u16])
+    requires { ⌜ Columns (now parents) (now label) (now work) 4 ⌝ }
+    ensures { λ _. ⌜ Same (now (work .exit)) (length (now (parents .entry))) (labelTable (now (parents .entry))) (4 * length (now (parents .entry))) (length (now (parents .entry))) ⌝ }
+{
+    along::order(parents, label, work);
+    along::ascendants(parents, label, work);
+}
+
+// HEAD, into the n cells of work from n on. A node is the head of its INLABEL where its parent's is another; the root is the head of its own.
+fn heads(parents: &[u16], root: usize, label: &[u16], work: &mut [u16])
+    requires { ⌜ Columns (now parents) (now label) (now work) 4 × (root ≡ rootOf (now parents)) ⌝ }
+    ensures { λ _. ⌜ Same (now (work .exit)) (length (now (parents .entry))) (labelTable (now (parents .entry))) (5 * length (now (parents .entry))) (length (now (parents .entry))) ⌝ }
+{
+    let n = parents.len();
+    cells::fill(work, n, n, NONE);
+    work[n - 1 + label[3 * n + root] as usize] = root as u16;
+    let mut v = 0;
+    while v < n {
+        let k = label[3 * n + v];
+        if k != label[3 * n + parents[v] as usize] {
+            work[n - 1 + k as usize] = v as u16;
+        }
+        v += 1;
+    }
+}
