@@ -1,0 +1,5 @@
+pub mod Stores
+pub mod Choice
+pub mod Doubled
+pub mod Visited
+pub mod Halves
