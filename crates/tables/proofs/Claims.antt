@@ -1,35 +1,126 @@
 -- What is shown of the calls of this crate, in document 01's words, from their contracts alone.
 -- Assumes nothing.
-use Prim.Native.Nat.{ℕ, _≤_}
+use Prim.Native.Nat.{ℕ, _≤_, _<_}
 use mathlib.Core.Path.{_≡_, refl, sym, ap, _∙_}
-use mathlib.Core.Logic.{_↔_}
+use mathlib.Core.Logic.{_≢_, _↔_}
 use mathlib.Core.List.{List, [], _∷_}
+use native.Mathlib.Nat.{zero-add}
 use native.Mathlib.Omega.{arith}
 use borrow.Author.Tests.{eq-eqb}
-use lib.ListN.{length}
+use lib.ListN.{length, getD}
 use Rattle.tree.specs.declared.Outcome.{Outcome}
 use Rattle.tree.specs.declared.Outcome.the-variants.{Accepted, Refused}
 use Rattle.tree.specs.Tree.{Tree}
-use Rattle.tree.specs.Verdict.{accepted, verdictOf}
-use Rattle.tree.specs.Tests.{verdict, limit, sheetTests}
+use Rattle.tree.specs.Verdict.{accepted, refused, verdictOf}
+use Rattle.tree.specs.Tests.{verdict, limit, sheetTests, staleTable}
+use Rattle.tree.specs.Tests as tests
 use Rattle.tree.specs.Buffers.{workCells, workFit, firstUnfit}
+use Rattle.tree.specs.Labels.{labelTable}
+use Rattle.tree.specs.Tour.{tourTable}
+use Rattle.tree.specs.Lifts.{liftTable}
+use Rattle.tree.specs.Tables.{Lent, own, endToEnd}
+use Rattle.tree.specs.Sections.{firstDifference}
+use Rattle.tree.proofs.Answers.{filled-own, filled-kept, stale-refused, stale-accepted}
+use Rattle.tree.proofs.Scans.{by-order}
+use Rattle.tree.proofs.Verdicts.{accepted-on}
+use Rattle.tree.proofs.Differences.{difference-same, difference-here, difference-all}
 use Rattle.tree.proofs.Claims.{accepted-exactly}
 use Rattle.tables.specs.Check.{CheckGives}
+use Rattle.tables.specs.Lend.{unfitOf, buildVerdict, BuildGives, LentGives}
 
 -- an outcome whose verdict accepts is the case that says so
 accepted-case : (r : Outcome) → verdictOf r ≡ accepted → r ≡ Accepted
 accepted-case Accepted e = refl
 accepted-case (Refused why) e = let z : _≡_ {A = ℕ} 0 1 = cc in absurd (omega arith)
 
+-- ---- checking
+
 -- work of exact length leaves no buffer that does not fit
 work-fits : (n cells : ℕ) → cells ≡ workCells n → firstUnfit (workFit n cells ∷ []) ≡ 0
 unfolding firstUnfit
 work-fits n cells e = rw (eq-eqb cells (workCells n) e)
 
+-- tests 1 to 7 where the buffers fit
+accepts : {s : List ℕ} {r : Outcome} {buffer : ℕ} → verdictOf r ≡ verdict (sheetTests s buffer) → buffer ≡ 0 → (r ≡ Accepted) ↔ (Tree s × (length s ≤ limit))
+accepts {s} {r} e fits =
+    let same : verdictOf r ≡ verdict (sheetTests s 0) = e ∙ ap (λ (buffer : ℕ). verdict (sheetTests s buffer)) fits in
+    (λ a. accepted-exactly s .0 (sym same ∙ ap verdictOf a), λ t. accepted-case r (same ∙ accepted-exactly s .1 t))
+
 -- "With buffers that fit, a sheet of 1 to 16,384 parts is accepted exactly if it is one rooted tree"
 pub check-accepts : {s before after : List ℕ} {r : Outcome} → CheckGives s before r after → length before ≡ workCells (length s)
     → (r ≡ Accepted) ↔ (Tree s × (length s ≤ limit))
-check-accepts {s} {before} {after} {r} g fits =
-    let same : verdictOf r ≡ verdict (sheetTests s 0) =
-    g .outcome ∙ ap (λ (buffer : ℕ). verdict (sheetTests s buffer)) (work-fits (length s) (length before) fits) in
-    (λ e. accepted-exactly s .0 (sym same ∙ ap verdictOf e), λ t. accepted-case r (same ∙ accepted-exactly s .1 t))
+check-accepts {s} {before} g fits = accepts (g .outcome) (work-fits (length s) (length before) fits)
+
+-- ---- building
+
+module _ {t : Lent} {before label′ tour′ lift′ after : List ℕ} {r : Outcome} (g : BuildGives t before r label′ tour′ lift′ after) where
+  -- the same of the call that builds
+  pub build-accepts : unfitOf t before 0 ≡ 0 → (r ≡ Accepted) ↔ (Tree (t .parents) × (length (t .parents) ≤ limit))
+  build-accepts fits = accepts (g .outcome) fits
+
+  -- "Every table cell is what Schieber-Vishkin, Bender/Farach-Colton or the doubling rule define"
+  pub build-fills : r ≡ Accepted → (label′ ≡ labelTable (t .parents)) × (tour′ ≡ tourTable (t .parents)) × (lift′ ≡ liftTable (t .parents))
+  build-fills e =
+      let v = buildVerdict t before in
+      let yes-all : v ≡ accepted = sym (g .outcome) ∙ ap verdictOf e in
+      (g .label ∙ sym (filled-own v _ _ yes-all), g .tour ∙ sym (filled-own v _ _ yes-all), g .lift ∙ sym (filled-own v _ _ yes-all))
+
+  -- "A refusal .. changes no table"
+  pub build-keeps : {number place : ℕ} → verdictOf r ≡ refused number place → (label′ ≡ t .label) × (tour′ ≡ t .tour) × (lift′ ≡ t .lift)
+  build-keeps e =
+      let v = buildVerdict t before in
+      let no-one : v ≡ refused _ _ = sym (g .outcome) ∙ e in
+      (g .label ∙ sym (filled-kept v _ _ _ _ no-one), g .tour ∙ sym (filled-kept v _ _ _ _ no-one), g .lift ∙ sym (filled-kept v _ _ _ _ no-one))
+
+-- ---- comparing
+
+-- the sheet's own tables end to end
+abbrev mine : Lent → List ℕ
+mine t = endToEnd (own (t .parents))
+
+module _ {t : Lent} {before after : List ℕ} {r : Outcome} (g : LentGives t 0 before r after) (a : tests.Accepted (t .parents)) (fits : unfitOf t before 0 ≡ 0) where
+  -- the comparison decides
+  decided : verdictOf r ≡ verdict (staleTable t ∷ [])
+  decided =
+      g .outcome
+      ∙ accepted-on (sheetTests (t .parents) (unfitOf t before 0)) (staleTable t ∷ [])
+      (ap (λ (buffer : ℕ). verdict (sheetTests (t .parents) buffer)) fits ∙ a)
+
+  -- no cell differs
+  unread : length (mine t) ≤ firstDifference (endToEnd t) (mine t) → verdictOf r ≡ accepted
+  unread h = decided ∙ stale-accepted t h
+
+  named : firstDifference (endToEnd t) (mine t) < length (mine t) → verdictOf r ≡ refused 8 (firstDifference (endToEnd t) (mine t))
+  named h = decided ∙ stale-refused t h
+
+  never : {place : ℕ} → verdictOf r ≡ accepted → verdictOf r ≡ refused 8 place → ⊥
+  never {place} e f = let both : accepted ≡ refused 8 place = sym e ∙ f in let z : _≡_ {A = ℕ} 0 1 = cc in omega arith
+
+  -- "For an accepted sheet and buffers that fit, tables are called stale exactly if a cell differs from that sheet's own"
+  pub stale-exactly : ((place : ℕ) × (verdictOf r ≡ refused 8 place)) ↔ ((i : ℕ) × (i < length (mine t)) × (getD (endToEnd t) i 0 ≢ getD (mine t) i 0))
+  stale-exactly =
+      let d = firstDifference (endToEnd t) (mine t) in (
+        λ stale. by-order (length (mine t)) d (λ h. absurd (never (unread h) (stale .1))) (λ h. (d, h, difference-here (endToEnd t) (mine t) h)),
+        λ cell. by-order (length (mine t)) d
+            (λ h. absurd (cell .2 (rw zero-add at (difference-all (endToEnd t) (mine t) h .cell (cell .0) (cell .1)))))
+            (λ h. (d, named h)),
+      )
+
+  -- "first such cell from 0": no cell before it differs
+  pub stale-first : (place : ℕ) → verdictOf r ≡ refused 8 place → (i : ℕ) → i < place → getD (endToEnd t) i 0 ≡ getD (mine t) i 0
+  stale-first place e i h =
+      let d = firstDifference (endToEnd t) (mine t) in
+      by-order (length (mine t)) d (λ l. absurd (never (unread l) e))
+      (λ l.
+      let both : refused 8 d ≡ refused 8 place = sym (named l) ∙ e in
+      let same : d ≡ place = cc in
+      rw zero-add at (difference-same (endToEnd t) (mine t) .cell i (omega arith)))
+
+  -- else they are accepted
+  pub compare-accepts : (r ≡ Accepted) ↔ ((i : ℕ) → i < length (mine t) → getD (endToEnd t) i 0 ≡ getD (mine t) i 0)
+  compare-accepts =
+      let d = firstDifference (endToEnd t) (mine t) in (
+        λ e i h. by-order (length (mine t)) d (λ l. rw zero-add at (difference-all (endToEnd t) (mine t) l .cell i h))
+            (λ l. absurd (never (ap verdictOf e) (named l))),
+        λ same. by-order (length (mine t)) d (λ l. accepted-case r (unread l)) (λ l. absurd (difference-here (endToEnd t) (mine t) l (same d l))),
+      )

@@ -1,2 +1,4 @@
 pub mod Check
+pub mod Lend
+pub mod Sections
 pub mod Stamps

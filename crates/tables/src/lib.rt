@@ -1,23 +1,23 @@
-// Checking a sheet: tests 1 to 7 of document 01's table, in a time proportional to the number of parts.
+// Checking a sheet, building its three tables, and comparing lent tables with it: tests 1 to 8 of document 01's table. Each call takes a time
+// proportional to the number of cells that it is lent.
 
+mod fill;
+mod fits;
 mod scan;
+mod stale;
 mod stamps;
 
 use tree::Outcome;
 use tree::Refusal;
 ghost use mathlib.Core.Path.{_≡_};
+ghost use Prim.Native.Nat.{_≤_, _<_};
 ghost use lib.ListN.{length};
 ghost use Rattle.tree.specs.Verdict.{verdictOf};
-ghost use Rattle.tree.specs.Tests.{verdict, treeTests};
+ghost use Rattle.tree.specs.Tests.{verdict, limit, treeTests};
 ghost use Rattle.tree.specs.Buffers.{workCells};
 ghost use Rattle.tables.specs.Check.{Tested, CheckGives};
+ghost use Rattle.tables.specs.Lend.{BuildGives, LentGives};
 ghost use Rattle.tables.specs.Stamps.{Blank};
-
-// The most parts that a sheet may have.
-const LIMIT: usize = 16384;
-
-// The number of the buffer work.
-const WORK: usize = 4;
 
 // Checks the sheet `parents`: accepted if it is one rooted tree of at most 16,384 parts, else refused with document 01's number
 // and place. `work` has four cells for each part. It is all zero afterwards, or as it was after refusals 1 to 3.
@@ -27,21 +27,93 @@ pub fn check(parents: &[u16], work: &mut [u16]) -> Outcome
     let unfit: usize = if work.len() == 4 * parents.len() {
         0
     } else {
-        WORK
+        fits::WORK
     };
     admit(parents, unfit, work)
 }
 
+// Builds the three tables of the sheet `parents`: tests 1 to 7, and an accepted call fills every cell of `label`, `tour` and `lift`. A refused call
+// changes none of them. `work` is as after `check`.
+pub fn build(
+    parents: &[u16],
+    label: &mut [u16],
+    tour: &mut [u16],
+    lift: &mut [u16],
+    work: &mut [u16],
+) -> Outcome
+    ensures { λ r. ⌜ BuildGives (record { parents = now (parents .entry); label = now (label .entry); tour = now (tour .entry); lift = now (lift .entry) })
+        (now (work .entry)) r (now (label .exit)) (now (tour .exit)) (now (lift .exit)) (now (work .exit)) ⌝ }
+{
+    let unfit = fits::first_unfit(
+        parents.len(),
+        label.len(),
+        tour.len(),
+        lift.len(),
+        work.len(),
+        0,
+    );
+    let r = admit(parents, unfit, work);
+    let Outcome::Accepted = r else {
+        return r;
+    };
+    fill::tables(parents, label, tour, lift, work);
+    r
+}
+
+// Compares the three tables with the sheet `parents`: tests 1 to 8. The tables are stale at the first cell that is not the sheet's own, counted
+// from 0, the tables end to end. `work` is as after `check`.
+pub fn compare(
+    parents: &[u16],
+    label: &[u16],
+    tour: &[u16],
+    lift: &[u16],
+    work: &mut [u16],
+) -> Outcome
+    ensures { λ r. ⌜ LentGives (record { parents = now (parents .entry); label = now (label .entry); tour = now (tour .entry); lift = now (lift .entry) })
+        0 (now (work .entry)) r (now (work .exit)) ⌝ }
+{
+    admit_lent(parents, label, tour, lift, 0, work)
+}
+
+// The same for every call that is lent tables to read: tests 1 to 8, of a call whose lowest further buffer that does not fit is `further`, or 0.
+pub fn admit_lent(
+    parents: &[u16],
+    label: &[u16],
+    tour: &[u16],
+    lift: &[u16],
+    further: usize,
+    work: &mut [u16],
+) -> Outcome
+    ensures { λ r. ⌜ LentGives (record { parents = now (parents .entry); label = now (label .entry); tour = now (tour .entry); lift = now (lift .entry) })
+        further (now (work .entry)) r (now (work .exit)) ⌝ }
+{
+    let unfit = fits::first_unfit(
+        parents.len(),
+        label.len(),
+        tour.len(),
+        lift.len(),
+        work.len(),
+        further,
+    );
+    let r = admit(parents, unfit, work);
+    let Outcome::Accepted = r else {
+        return r;
+    };
+    let found = stale::tables(parents, label, tour, lift, work);
+    scan::clear(work);
+    found
+}
+
 // Tests 1 to 7, of a call whose lowest buffer that does not fit is `unfit`, or 0.
 fn admit(parents: &[u16], unfit: usize, work: &mut [u16]) -> Outcome
-    requires { ⌜ (unfit ≡ 0 → length (now work) ≡ workCells (length (now parents))) ⌝ }
+    requires { ⌜ (0 < length (now parents) → length (now parents) ≤ limit → unfit ≡ 0 → length (now work) ≡ workCells (length (now parents))) ⌝ }
     ensures { λ r. ⌜ Tested (now (parents .entry)) unfit (now (work .entry)) r (now (work .exit)) ⌝ }
 {
     let n = parents.len();
     if n == 0 {
         return Outcome::Refused(Refusal::Empty);
     }
-    if LIMIT < n {
+    if fits::LIMIT < n {
         return Outcome::Refused(Refusal::TooLarge);
     }
     if unfit != 0 {

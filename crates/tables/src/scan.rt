@@ -10,11 +10,8 @@ ghost use Rattle.tree.specs.Tests.{parentOutOfRange};
 pub(crate) fn clear(buffer: &mut [u16])
     ensures { λ _. ⌜ now (buffer .exit) ≡ replicate (length (now (buffer .entry))) 0 ⌝ }
 {
-    let mut i = 0;
-    while i < buffer.len() {
-        buffer[i] = 0;
-        i += 1;
-    }
+    let n = buffer.len();
+    cells::fill(buffer, 0, n, 0);
 }
 
 // The lowest part whose entry is no part; the number of parts where there is none.

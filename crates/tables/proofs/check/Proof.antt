@@ -25,7 +25,7 @@ mul-if1 : tie.Need-mul-if1
 mul-if1 c = search needs
 
 admit-requires : tie.Need-admit-requires
-admit-requires c κs = fits (c .before)
+admit-requires c κs = λ _ _ e. fits (c .before) e
 
 same-length : tie.Need-same-length
 same-length c = search needs

@@ -1,0 +1,168 @@
+-- `tables::stale::label` meets its contract: the table's first k columns are the sheet's own, and the next is made and compared.
+-- Assumes nothing.
+use native.Mathlib.Omega.{arith}
+use borrow.Author.Needs.{needs}
+use Prim.Native.Nat.{_+_, _-_, _*_, _≤_}
+use native.Mathlib.Numerals.{add-one}
+use mathlib.Core.Path.{_≡_, sym, _∙_}
+use lib.ListN.{length}
+use Rattle.tree.specs.Tree.{rootOf}
+use Rattle.tree.specs.Ready.{Columns}
+use Rattle.tree.proofs.Cells.{label-length}
+use Rattle.tree.proofs.Columns.{ready-kept}
+use Rattle.tables.proofs.Columnwise.{column-room, columns-more, columns-none}
+use Rattle.tables.proofs.Sections.{agree-all, agree-parts, agree-all-first, agree-parts-first}
+use Rattle.tree.specs.Buffers.{labelCells}
+use Rattle.tables.proofs.stale.label.Statement.{statement}
+use Rattle.tables.proofs.stale.label.Tie as tie
+
+abbrev Inv-loop : tie.InvT-loop
+Inv-loop parents table work₀ n root same k₀ work k = (2 ≤ k) × (k ≤ 6) × Columns parents table work k
+
+abbrev μ-loop : tie.MeasureT-loop
+μ-loop parents table work₀ n root same k₀ work k = 6 - k
+
+-- there is room for column k
+room : (c : tie.In-loop Inv-loop μ-loop)
+    → let n = length (c .before .before .before .before .before .before .before .before .before .before .before .before .before .args .parents .now) in
+    c .before .loop .k * n + n ≤ labelCells n
+room c = column-room _ _ (c .loop-test .taken)
+
+next-root-requires : tie.Need-next-root-requires Inv-loop μ-loop
+next-root-requires c κs = search needs
+
+numbers-requires : tie.Need-numbers-requires Inv-loop μ-loop
+unfolding rootOf
+numbers-requires c κs =
+    let s = c .before .before .before .before .before in
+    (s .pre .0, c .before .next-root .ensures)
+
+mul-agree : tie.Need-mul-agree Inv-loop μ-loop
+mul-agree c = search needs
+
+mul-agree-2 : tie.Need-mul-agree-2 Inv-loop μ-loop
+mul-agree-2 c = search needs
+
+agree-requires : tie.Need-agree-requires Inv-loop μ-loop
+agree-requires c κs = search needs
+
+mul-if1 : tie.Need-mul-if1 Inv-loop μ-loop
+mul-if1 c = search needs
+
+same-length : tie.Need-same-length Inv-loop μ-loop
+same-length c = search needs
+
+returns : tie.Need-returns Inv-loop μ-loop
+returns c =
+    let s = c .before .before .before .before .before .before .before .before .before .before .before in
+    let own = label-length (s .args .parents .now) in
+    agree-parts-first (c .before .agree .ensures) (c .before .before .before .before .before .numbers .ensures) (omega arith) (c .if1 .taken)
+
+loop-holds : tie.Need-loop-holds Inv-loop μ-loop
+loop-holds c =
+    let s = c .before .before .before .before .before .before .before .before .before .before .before in
+    let numbers = c .before .before .before .before .before .numbers in
+    (omega arith, omega arith, record { ready = ready-kept (s .pre .0) (numbers .kept .1 .1 .0); cells = s .pre .1; own = agree-all-first (c .before .agree .ensures) (numbers .ensures) (c .if1 .left) })
+
+column-requires : tie.Need-column-requires Inv-loop μ-loop
+unfolding rootOf
+column-requires c κs =
+    let l = c .before .before .loop .inv in
+    (l .0, c .before .loop-test .taken, l .2, c .before .before .before .before .before .before .before .before .before .before .next-root .ensures)
+
+mul-agree-3 : tie.Need-mul-agree-3 Inv-loop μ-loop
+mul-agree-3 c =
+    let most = room (c .before .before .before .before) in
+    let small = c .before .before .before .before .before .before .before .before .before .before .before .before .before .before .before .before .before .pre .0 .small in
+    omega arith
+
+agree-requires-2 : tie.Need-agree-requires-2 Inv-loop μ-loop
+agree-requires-2 c κs =
+    let most = room (c .before .before .before .before .before) in
+    let cells = c .before .before .before .before .before .before .before .before .before .before .before .before .before .before .before .before .before .before .pre .1 in
+    let ready = c .before .before .before .before .before .before .loop .inv .2 .ready .room in
+    let kept = c .before .before .before .column .kept .1 .1 .1 .1 .0 in
+    (omega arith, omega arith)
+
+mul-result : tie.Need-mul-result Inv-loop μ-loop
+mul-result c =
+    let most = room (c .before .before .before .before .before .before .before) in
+    let small = c .before .before .before .before .before .before .before .before .before .before .before .before .before .before .before .before .before .before .before .before .pre .0 .small in
+    omega arith
+
+add-result : tie.Need-add-result Inv-loop μ-loop
+add-result c =
+    let most = room (c .before .before .before .before .before .before .before) in
+    let small = c .before .before .before .before .before .before .before .before .before .before .before .before .before .before .before .before .before .before .before .before .pre .0 .small in
+    let taken = c .if2 .taken in
+    omega arith
+
+same-length-2 : tie.Need-same-length-2 Inv-loop μ-loop
+same-length-2 c =
+    let s = c .before .before .before .before .before .before .before .before .before .before .before .before .before .before .before .before .before .before .before .before in
+    c .before .before .before .before .before .column .kept .1 .1 .1 .1 .0 ∙ c .before .before .before .before .before .before .before .before .loop .inv .2 .ready .room ∙ sym (s .pre .0 .room)
+
+returns-2 : tie.Need-returns-2 Inv-loop μ-loop
+returns-2 c =
+    let most = room (c .before .before .before .before .before .before .before) in
+    let own = label-length (c .before .before .before .before .before .before .before .before .before .before .before .before .before .before .before .before .before .before .before .before .args .parents .now) in
+    agree-parts (c .before .before .before .before .before .before .before .before .loop .inv .2 .own) (c .before .agree2 .ensures) (c .before .before .before .before .before .column .ensures) (omega arith) (c .if2 .taken)
+
+add-k : tie.Need-add-k Inv-loop μ-loop
+add-k c = search needs
+
+loop-less : tie.Need-loop-less Inv-loop μ-loop
+loop-less c =
+    let taken = c .before .before .before .before .before .before .before .loop-test .taken in
+    omega arith
+
+loop-again : tie.Need-loop-again Inv-loop μ-loop
+loop-again c =
+    let l = c .before .before .before .before .before .before .before .before .loop .inv in
+    let column = c .before .before .before .before .before .column in
+    let taken = c .before .before .before .before .before .before .before .loop-test .taken in
+    (omega arith, omega arith, rw add-one (columns-more (ready-kept (l .2 .ready) (column .kept .1 .1 .1 .1 .0)) (l .2 .cells) (agree-all (l .2 .own) (c .before .agree2 .ensures) (column .ensures) (c .if2 .left))))
+
+mul-result-2 : tie.Need-mul-result-2 Inv-loop μ-loop
+mul-result-2 c = search needs
+
+same-length-3 : tie.Need-same-length-3 Inv-loop μ-loop
+same-length-3 c =
+    let s = c .before .before .before .before .before .before .before .before .before .before .before .before .before in
+    c .before .loop .inv .2 .ready .room ∙ sym (s .pre .0 .room)
+
+returns-3 : tie.Need-returns-3 Inv-loop μ-loop
+returns-3 c =
+    let l = c .before .loop in
+    let left = c .loop-test .left in
+    let six : l .k ≡ 6 = omega arith in
+    columns-none (rw six at (l .inv .2))
+
+pub label-spec : {M : Type 1} → statement M
+label-spec =
+    tie.close
+    (tie.spec
+    Inv-loop
+    μ-loop
+    next-root-requires
+    numbers-requires
+    mul-agree
+    mul-agree-2
+    agree-requires
+    mul-if1
+    same-length
+    returns
+    loop-holds
+    column-requires
+    mul-agree-3
+    agree-requires-2
+    mul-result
+    add-result
+    same-length-2
+    returns-2
+    add-k
+    loop-less
+    loop-again
+    mul-result-2
+    same-length-3
+    returns-3)

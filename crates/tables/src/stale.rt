@@ -1,0 +1,140 @@
+// Comparing lent tables with an accepted sheet, section by section: each is made in work and compared, up to the first cell that differs.
+
+use crate::scan;
+use tree::Outcome;
+use tree::Refusal;
+ghost use mathlib.Core.Path.{_≡_};
+ghost use Prim.Native.Nat.{_+_};
+ghost use lib.ListN.{length};
+ghost use Rattle.tree.specs.Buffers.{visits, labelCells, tourCells, liftCells};
+ghost use Rattle.tree.specs.Labels.{labelTable};
+ghost use Rattle.tree.specs.Tour.{tourTable};
+ghost use Rattle.tree.specs.Lifts.{liftTable};
+ghost use Rattle.tree.specs.Sections.{Same, firstDifference};
+ghost use mathlib.Core.List.{[], _∷_};
+ghost use Rattle.tree.specs.Ready.{Ready, Columns};
+ghost use Rattle.tree.specs.Verdict.{verdictOf};
+ghost use Rattle.tree.specs.Tests.{verdict, staleTable};
+ghost use Rattle.tables.specs.Sections.{Fits};
+
+// Test 8: the three tables end to end.
+pub(crate) fn tables(
+    parents: &[u16],
+    label: &[u16],
+    tour: &[u16],
+    lift: &[u16],
+    work: &mut [u16],
+) -> Outcome
+    requires { ⌜ Fits (record { parents = now parents; label = now label; tour = now tour; lift = now lift }) (now work) ⌝ }
+    ensures { λ r. ⌜ verdictOf r ≡ verdict
+        (staleTable (record { parents = now (parents .entry); label = now (label .entry); tour = now (tour .entry); lift = now (lift .entry) }) ∷ []) ⌝ }
+{
+    let at = self::label(parents, label, work);
+    if at < label.len() {
+        return Outcome::Refused(Refusal::StaleTable(at));
+    }
+    let at = self::tour(parents, label, tour, work);
+    if at < tour.len() {
+        return Outcome::Refused(Refusal::StaleTable(label.len() + at));
+    }
+    let at = self::lift(parents, lift, work);
+    if at < lift.len() {
+        return Outcome::Refused(Refusal::StaleTable(label.len() + tour.len() + at));
+    }
+    Outcome::Accepted
+}
+
+// The first cell of a label table that is not the sheet's own; the table's length where there is none.
+pub(crate) fn label(parents: &[u16], table: &[u16], work: &mut [u16]) -> usize
+    requires { ⌜ Ready (now parents) (now work) × (length (now table) ≡ labelCells (length (now parents))) ⌝ }
+    ensures { λ r. ⌜ r ≡ firstDifference (now (table .entry)) (labelTable (now (parents .entry))) ⌝ }
+{
+    let n = parents.len();
+    let root = scan::next_root(parents, 0);
+    labels::numbers(parents, root, work);
+    let same = cells::agree(table, 0, work, 2 * n, 2 * n);
+    if same < 2 * n {
+        return same;
+    }
+    let mut k = 2;
+    while k < 6 {
+        labels::column(k, parents, root, table, work);
+        let same = cells::agree(table, k * n, work, n, n);
+        if same < n {
+            return k * n + same;
+        }
+        k += 1;
+    }
+    6 * n
+}
+
+// The first cell of a tour table that is not the sheet's own; the table's length where there is none.
+pub(crate) fn tour(parents: &[u16], label: &[u16], table: &[u16], work: &mut [u16]) -> usize
+    requires { ⌜ Columns (now parents) (now label) (now work) 6 × (length (now table) ≡ tourCells (length (now parents))) ⌝ }
+    ensures { λ r. ⌜ r ≡ firstDifference (now (table .entry)) (tourTable (now (parents .entry))) ⌝ }
+{
+    let n = parents.len();
+    let m = 2 * n - 1;
+    rows::visits(parents, label, work);
+    let same = cells::agree(table, 0, work, 0, m);
+    if same < m {
+        return same;
+    }
+    rows::first_visits(parents, label, work);
+    let same = cells::agree(table, m, work, 0, n);
+    if same < n {
+        return m + same;
+    }
+    sparse(parents, label, table, work)
+}
+
+// The same, where the tour and the first positions are the sheet's own.
+fn sparse(parents: &[u16], label: &[u16], table: &[u16], work: &mut [u16]) -> usize
+    requires { ⌜ Columns (now parents) (now label) (now work) 6 × (length (now table) ≡ tourCells (length (now parents)))
+        × Same (now table) 0 (tourTable (now parents)) 0 (visits (length (now parents)) + length (now parents)) ⌝ }
+    ensures { λ r. ⌜ r ≡ firstDifference (now (table .entry)) (tourTable (now (parents .entry))) ⌝ }
+{
+    let n = parents.len();
+    let m = 2 * n - 1;
+    let mut at = m + n;
+    let mut half = 1;
+    rows::first_row(parents, label, table, work);
+    let same = cells::agree(table, at, work, 0, m);
+    if same < m {
+        return at + same;
+    }
+    while 2 * half <= m {
+        rows::next_row(parents, table, at, half, work);
+        at += m;
+        half = 2 * half;
+        let same = cells::agree(table, at, work, 0, m);
+        if same < m {
+            return at + same;
+        }
+    }
+    at + m
+}
+
+// The first cell of a lift table that is not the sheet's own; the table's length where there is none.
+pub(crate) fn lift(parents: &[u16], table: &[u16], work: &mut [u16]) -> usize
+    requires { ⌜ Ready (now parents) (now work) × (length (now table) ≡ liftCells (length (now parents))) ⌝ }
+    ensures { λ r. ⌜ r ≡ firstDifference (now (table .entry)) (liftTable (now (parents .entry))) ⌝ }
+{
+    let n = parents.len();
+    let same = cells::agree(table, 0, parents, 0, n);
+    if same < n {
+        return same;
+    }
+    let mut at = 0;
+    let mut power = 1;
+    while 2 * power <= n {
+        rows::next_lift(parents, table, at, work);
+        at += n;
+        power = 2 * power;
+        let same = cells::agree(table, at, work, 0, n);
+        if same < n {
+            return at + same;
+        }
+    }
+    at + n
+}
