@@ -1,15 +1,22 @@
 #!/usr/bin/env python3
-"""A plain model of document 01's tests 1 to 7, written apart from the library: what `known` must print.
+"""A plain model of document 01's tests 1 to 8 and of its three tables, written apart from the library: what `known` must print.
 
     python3 tools/known.py | diff - crates/known/stdout
 
-It climbs part by part and shares nothing with crates/. It reads the small sheets from crates/known/stdin and makes the large ones.
+It takes each definition as it stands, climbs part by part, scans block by block and shares nothing with crates/. It reads the small sheets
+from crates/known/stdin and makes the large ones. Of the tables of the large ones it says only what follows from the definitions: a sheet's own
+tables are accepted, and a changed cell is stale at its place.
 """
 import os
 import re
 
 LIMIT = 16384
+NO_CELL = 65535
+NUMBERS = 80
+ROOM = [192, 480, 192, 128]
 
+
+# The tests.
 
 def climbs_to(root, parents, v):
     """Whether v's climb meets the root: no climb takes n steps to get there."""
@@ -20,15 +27,37 @@ def climbs_to(root, parents, v):
     return False
 
 
-def refusal(parents, cells):
-    """The number and place of the first test that fails, or None."""
+def log(n):
+    """The logarithm to base 2, rounded down."""
+    k = 0
+    while 2 ** (k + 1) <= n:
+        k += 1
+    return k
+
+
+def exact(n):
+    """The cells of label, tour, lift and work for n parts."""
+    return [6 * n, (2 * n - 1) * (log(2 * n - 1) + 2) + n, n * (log(n) + 1), 4 * n]
+
+
+def misfit(lent, wanted):
+    """The number of the lowest buffer that has not its exact length, or None; a buffer that is not lent is None."""
+    for buffer, (cells, right) in enumerate(zip(lent, wanted), 1):
+        if cells is not None and cells != right:
+            return buffer
+    return None
+
+
+def refusal(parents, lent):
+    """The number and place of the first of tests 1 to 7 that fails, or None."""
     n = len(parents)
     if n == 0:
         return 1, 0
     if n > LIMIT:
         return 2, 0
-    if cells != 4 * n:
-        return 3, 4
+    buffer = misfit(lent, exact(n))
+    if buffer is not None:
+        return 3, buffer
     for v, entry in enumerate(parents):
         if entry >= n:
             return 4, v
@@ -49,13 +78,191 @@ def refusal(parents, cells):
     return None
 
 
-def show(name, parents, cells=None):
-    """The line of one sheet, with exact work where no cells are given."""
-    why = refusal(parents, 4 * len(parents) if cells is None else cells)
+def stale(parents, tables, lent):
+    """The same of tests 1 to 8, with the lent tables end to end."""
+    why = refusal(parents, lent)
+    if why is not None:
+        return why
+    for place, (cell, own) in enumerate(zip(tables, sum(own_tables(parents), []))):
+        if cell != own:
+            return 8, place
+    return None
+
+
+# The tables.
+
+def climb(parents, v, steps):
+    """The part that many steps up, staying at the root."""
+    for _ in range(steps):
+        v = parents[v]
+    return v
+
+
+def carriers(parents, v):
+    """The parts that carry v, from v to the root."""
+    found = [v]
+    while parents[v] != v:
+        v = parents[v]
+        found.append(v)
+    return found
+
+
+def bolted_into(parents, v):
+    """The parts whose entry is v, the root apart, in rising number."""
+    return [c for c, entry in enumerate(parents) if entry == v and c != v]
+
+
+def walk(parents, v):
+    """The tour from v: v, and after each part that is bolted into it v again."""
+    visits = [v]
+    for c in bolted_into(parents, v):
+        visits += walk(parents, c) + [v]
+    return visits
+
+
+def rightmost_zeros(k):
+    """How many zero bits stand right of the lowest one bit of k."""
+    zeros = 0
+    while k % 2 == 0:
+        k //= 2
+        zeros += 1
+    return zeros
+
+
+def own_tables(parents):
+    """The label, tour and lift tables of one rooted tree."""
+    parts = range(len(parents))
+    root = next(v for v in parts if parents[v] == v)
+    visits = walk(parents, root)
+    level = [len(carriers(parents, v)) - 1 for v in parts]
+    return [label_table(parents, root, visits, level), tour_table(parts, visits, level), lift_table(parents)]
+
+
+def label_table(parents, root, visits, level):
+    """PREORDER, SIZE, LEVEL, INLABEL, ASCENDANT, HEAD."""
+    parts = range(len(parents))
+    order = sorted(parts, key=visits.index)
+    preorder = [order.index(v) + 1 for v in parts]
+    size = [sum(v in carriers(parents, u) for u in parts) for v in parts]
+    inlabel = [max(range(preorder[v], preorder[v] + size[v]), key=rightmost_zeros) for v in parts]
+    ascendant = [0 for _ in parts]
+    for v in order:
+        if v == root:
+            ascendant[v] = 2 ** log(len(parents))
+        elif inlabel[v] == inlabel[parents[v]]:
+            ascendant[v] = ascendant[parents[v]]
+        else:
+            ascendant[v] = ascendant[parents[v]] + 2 ** rightmost_zeros(inlabel[v])
+    head = []
+    for k in range(1, len(parents) + 1):
+        labelled = [v for v in parts if inlabel[v] == k]
+        head.append(min(labelled, key=lambda v: level[v]) if labelled else NO_CELL)
+    return preorder + size + level + inlabel + ascendant + head
+
+
+def tour_table(parts, visits, level):
+    """E, R, and the rows of leftmost positions of least LEVEL."""
+    table = visits + [visits.index(v) for v in parts]
+    for j in range(log(len(visits)) + 1):
+        for i in range(len(visits)):
+            block = range(i, i + 2 ** j)
+            table.append(min(block, key=lambda p: level[visits[p]]) if block[-1] < len(visits) else NO_CELL)
+    return table
+
+
+def lift_table(parents):
+    """Each part's carrier 2^k steps up, row by row."""
+    return [climb(parents, v, 2 ** k) for k in range(log(len(parents)) + 1) for v in range(len(parents))]
+
+
+# The lines.
+
+def listed(numbers):
+    return " ".join(map(str, numbers))
+
+
+def entries(parents):
+    return listed(parents) or "no entries"
+
+
+def verdict(why):
+    """A verdict and what it leaves of work."""
     if why is None:
-        print(f"{name}: accepted, work zero")
-    else:
-        print(f"{name}: refused {why[0]} at {why[1]}, work {'kept' if why[0] <= 3 else 'zero'}")
+        return ": accepted, work zero"
+    return f": refused {why[0]} at {why[1]}, work {'kept' if why[0] <= 3 else 'zero'}"
+
+
+def filled(parents, lent):
+    """The tables after a build, end to end: the sheet's own, or the sevens that they held."""
+    if refusal(parents, lent) is None:
+        return sum(own_tables(parents), [])
+    return [7] * sum(lent[:3])
+
+
+def show_built(parents, lent):
+    """Lines of kind 't'."""
+    why = refusal(parents, lent)
+    print(f"{entries(parents)} with {listed(lent)}{verdict(why)}, tables {'filled' if why is None else 'kept'}")
+    if why is None:
+        for name, table in zip(["label", "tour", "lift"], own_tables(parents)):
+            print(f"  {name}: {listed(table)}")
+
+
+def show_damaged(places, parents, lent):
+    """A line of kind 'd'."""
+    tables = filled(parents, lent)
+    for place in places:
+        tables[place] = (tables[place] + 1) % 65536
+    print(f"{entries(parents)} with {listed(lent)}, damaged at {listed(places) or 'no place'}{verdict(stale(parents, tables, lent))}")
+
+
+def show_other(first, second, lent):
+    """A line of kind 'o'."""
+    print(f"{entries(first)} / {entries(second)} with {listed(lent)}{verdict(stale(second, filled(first, lent), lent))}")
+
+
+def show_sevens(parents, lent):
+    """A line of kind 'c'."""
+    print(f"{entries(parents)} with {listed(lent)}, sevens{verdict(stale(parents, [7] * sum(lent[:3]), lent))}")
+
+
+def show_line(kind, numbers):
+    """The lines that one line of stdin gives."""
+    if kind == "w":
+        cells, *parents = numbers
+        assert cells <= ROOM[3]
+        print(f"{entries(parents)} with {cells}{verdict(refusal(parents, [None, None, None, cells]))}")
+        return
+    lent, rest = numbers[:4], numbers[4:]
+    if any(cells > room for cells, room in zip(lent, ROOM)):
+        print("too many cells")
+    elif kind == "t":
+        show_built(rest, lent)
+    elif kind == "d":
+        show_damaged(rest[1:rest[0] + 1], rest[rest[0] + 1:], lent)
+    elif kind == "o":
+        show_other(rest[:len(rest) // 2], rest[len(rest) // 2:], lent)
+    elif kind == "c":
+        show_sevens(rest, lent)
+
+
+# The large sheets.
+
+def show(name, parents, cells=None):
+    """The line of one sheet that is checked, with exact work where no cells are given."""
+    work = 4 * len(parents) if cells is None else cells
+    print(f"{name}{verdict(refusal(parents, [None, None, None, work]))}")
+
+
+def show_tables(name, parents):
+    """The lines of a large sheet whose tables are built and compared, as they are and with two cells changed."""
+    lent = exact(len(parents))
+    why = refusal(parents, lent)
+    assert why is None
+    print(f"{name}, tables{verdict(why)}, tables filled")
+    print(f"  compared{verdict(None)}")
+    print(f"  last cell changed{verdict((8, sum(lent[:3]) - 1))}")
+    print(f"  first cell changed too{verdict((8, 0))}")
 
 
 def changed(parents, **entries):
@@ -70,16 +277,17 @@ def main():
     here = os.path.dirname(os.path.abspath(__file__))
     with open(os.path.join(here, "..", "crates", "known", "stdin")) as lines:
         for line in lines:
-            if line.startswith("#"):
-                continue
-            cells, *parents = map(int, re.findall(r"\d+", line))
-            show(f"{' '.join(map(str, parents)) or 'no entries'} with {cells}", parents, cells)
+            numbers = list(map(int, re.findall(r"\d+", line)))
+            if not line.startswith("#"):
+                assert len(numbers) <= NUMBERS
+                show_line(line[0], numbers)
 
     star = [0] * LIMIT
+    down = [0] + list(range(LIMIT - 1))
     up = list(range(1, LIMIT + 1))
     show("star of 16384, root 0", star)
     show("star of 16384, root 16383", [16383] * LIMIT)
-    show("chain of 16384, root 0", [0] + list(range(LIMIT - 1)))
+    show("chain of 16384, root 0", down)
     show("chain of 16384, root 16383", changed(up, v16383=16383))
     show("16385 entries", [0] * (LIMIT + 1))
     show("16384 entries, a cell of work short", star, 4 * LIMIT - 1)
@@ -89,6 +297,13 @@ def main():
     show("root 0 and a loop of 16383", changed(up, v0=0, v16383=1))
     show("climb of 16381 steps to a loop of 2", changed(up, v16382=16381, v16383=16383))
     show("star of 16382 and a loop of the last two", changed(star, v16382=16383, v16383=16382))
+
+    large = verdict(refusal([0] * (LIMIT + 1), exact(1)))
+    print(f"16385 entries, tables{large}, tables kept")
+    print(f"16385 entries, compared{large}")
+    show_tables("star of 16384, root 0", star)
+    show_tables("chain of 16384, root 0", down)
+    show_tables("tree of 16384 of no order", [0] + [(40503 * v + 12829) % 65536 % v for v in range(1, LIMIT)])
 
 
 main()

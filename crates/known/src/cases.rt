@@ -1,6 +1,8 @@
-// Sheets that are written down: a line has the cells of work that are lent and then the entries, as in "work 12: 5 1 2". A line that begins
-// with '#' is a comment. Whatever is no digit only parts the numbers.
+// Sheets that are written down, a line each. Its first letter says what is done with it: of a line "work 12: 5 1 2" the sheet is checked, with
+// the cells of work that are lent before the entries; lend.rt has the kinds 't', 'd', 'o' and 'c'; any other line, as one that begins with '#',
+// is a comment. Whatever is no digit only parts the numbers.
 
+use crate::lend;
 use crate::print;
 use crate::run;
 ghost use Prim.Native.Nat.{_≤_};
@@ -32,22 +34,34 @@ fn line_end(text: &[u8], from: usize) -> usize
     i
 }
 
-// Checks the sheet of a line, unless it is a comment.
+// Runs a line, unless it is a comment.
 fn run_line(line: &[u8]) {
-    let mut found = [0u16; 32];
-    let mut work = [0u16; 64];
+    let mut found = [0u16; 80];
     if line.len() == 0 {
         return;
     }
-    if line[0] == b'#' {
-        return;
-    }
+    let kind = line[0];
     let count = numbers(line, &mut found);
-    run_sheet(&found[..count], &mut work);
+    run_kind(kind, &found[..count]);
 }
 
-// Checks a sheet that stands behind the number of cells of `work` that it is lent.
-fn run_sheet(numbers: &[u16], work: &mut [u16]) {
+// Runs a line of numbers whose kind its first letter says.
+fn run_kind(kind: u8, numbers: &[u16]) {
+    match kind {
+        b'w' => run_sheet(numbers),
+        b't' | b'd' | b'o' | b'c' => lend::run(kind, numbers),
+        _ => {}
+    }
+}
+
+// Checks a sheet that stands behind the number of cells of work that it is lent.
+fn run_sheet(numbers: &[u16]) {
+    let mut work = [0u16; 128];
+    lend_work(numbers, &mut work);
+}
+
+// Lends as many cells of work as the line says.
+fn lend_work(numbers: &[u16], work: &mut [u16]) {
     if numbers.len() == 0 {
         return;
     }
@@ -57,7 +71,9 @@ fn run_sheet(numbers: &[u16], work: &mut [u16]) {
         return;
     }
     let parents = &numbers[1..];
-    print::sheet(parents, cells as u64);
+    print::entries(parents);
+    print::text(b" with ");
+    print::number(cells as u64);
     run(parents, &mut work[..cells]);
 }
 

@@ -1,35 +1,63 @@
-// Sheets of 16,384 parts and one more, made by loops.
+// Sheets of 16,384 parts and one more, made by loops, and the tables of three of them.
 
+use crate::damage;
+use crate::lend;
 use crate::print;
 use crate::run;
 use crate::shape;
 ghost use mathlib.Core.Path.{_≡_};
 ghost use lib.ListN.{length};
 
+// The entries of 16,384 parts.
 fn sheet() -> [u16; 16384]
     ensures { λ r. ⌜ 16384 ≡ length r ⌝ }
 {
     [0; 16384]
 }
 
+// The work of 16,384 parts.
 fn work() -> [u16; 65536]
     ensures { λ r. ⌜ 65536 ≡ length r ⌝ }
 {
     [0; 65536]
 }
 
+// The label table of 16,384 parts, all sevens.
+fn label() -> [u16; 98304]
+    ensures { λ r. ⌜ 98304 ≡ length r ⌝ }
+{
+    [7; 98304]
+}
+
+// The tour table of 16,384 parts, all sevens.
+fn tour() -> [u16; 540656]
+    ensures { λ r. ⌜ 540656 ≡ length r ⌝ }
+{
+    [7; 540656]
+}
+
+// The lift table of 16,384 parts, all sevens.
+fn lift() -> [u16; 245760]
+    ensures { λ r. ⌜ 245760 ≡ length r ⌝ }
+{
+    [7; 245760]
+}
+
+// The entries of one part more.
 fn sheet_too_large() -> [u16; 16385]
     ensures { λ r. ⌜ 16385 ≡ length r ⌝ }
 {
     [0; 16385]
 }
 
+// The work of 16,384 parts, a cell short.
 fn work_too_short() -> [u16; 65535]
     ensures { λ r. ⌜ 65535 ≡ length r ⌝ }
 {
     [0; 65535]
 }
 
+// Stars and chains, with the root at either end.
 pub fn accepted() {
     let mut s = sheet();
     let mut w = work();
@@ -57,6 +85,19 @@ pub fn sizes() {
     let mut w = work_too_short();
     print::text(b"16384 entries, a cell of work short");
     run(&s, &mut w);
+}
+
+// Test 2, before 3, of the calls that are lent tables.
+pub fn size_of_tables() {
+    let s = sheet_too_large();
+    let mut label = [7u16; 6];
+    let mut tour = [7u16; 3];
+    let mut lift = [7u16; 1];
+    let mut w = [7u16; 4];
+    print::text(b"16385 entries, tables");
+    lend::built(&s, &mut label, &mut tour, &mut lift, &mut w);
+    print::text(b"16385 entries, compared");
+    lend::compare(&s, &label, &tour, &lift, &mut w);
 }
 
 // Tests 4 to 6, at the last part.
@@ -94,4 +135,74 @@ pub fn cycles() {
     shape::put(&mut s, 16383, 16382);
     print::text(b"star of 16382 and a loop of the last two");
     run(&s, &mut w);
+}
+
+// The tables of a star, a chain and a tree of no order.
+pub fn tables() {
+    let mut s = sheet();
+    print::text(b"star of 16384, root 0");
+    lend_tables(&s);
+    shape::chain_down(&mut s);
+    print::text(b"chain of 16384, root 0");
+    lend_tables(&s);
+    shape::scatter(&mut s);
+    print::text(b"tree of 16384 of no order");
+    lend_tables(&s);
+}
+
+// Lends the buffers of the tables of 16,384 parts.
+fn lend_tables(parents: &[u16]) {
+    let mut label = label();
+    let mut tour = tour();
+    let mut lift = lift();
+    let mut w = work();
+    run_tables(parents, &mut label, &mut tour, &mut lift, &mut w);
+}
+
+// Builds the tables of a sheet and compares them with it.
+fn run_tables(
+    parents: &[u16],
+    label: &mut [u16],
+    tour: &mut [u16],
+    lift: &mut [u16],
+    work: &mut [u16],
+) {
+    print::text(b", tables");
+    lend::built(parents, label, tour, lift, work);
+    compare(b"  compared", parents, label, tour, lift, work);
+    run_damaged(parents, label, tour, lift, work);
+}
+
+// Compares a sheet's tables with it, the last cell changed, and then the first cell too.
+fn run_damaged(
+    parents: &[u16],
+    label: &mut [u16],
+    tour: &[u16],
+    lift: &mut [u16],
+    work: &mut [u16],
+) {
+    damage::last(lift);
+    compare(b"  last cell changed", parents, label, tour, lift, work);
+    damage::cell(label, 0);
+    compare(
+        b"  first cell changed too",
+        parents,
+        label,
+        tour,
+        lift,
+        work,
+    );
+}
+
+// Compares tables with a sheet, and prints a line.
+fn compare(
+    name: &[u8],
+    parents: &[u16],
+    label: &[u16],
+    tour: &[u16],
+    lift: &[u16],
+    work: &mut [u16],
+) {
+    print::text(name);
+    lend::compare(parents, label, tour, lift, work);
 }

@@ -1,8 +1,11 @@
 // The known sheets that are run (document 01, "Known sheets", and more of our own). Standard input has the small ones, a line each; the large
-// ones are made here. Each is checked, and a line says the verdict and what became of work, which held sevens before.
+// ones are made here. Each is checked, or its tables are built or compared with it, and a line says the verdict and what became of work,
+// which held sevens before.
 
 mod cases;
+mod damage;
 mod large;
+mod lend;
 mod print;
 mod shape;
 
@@ -12,14 +15,18 @@ fn run(parents: &[u16], work: &mut [u16]) {
     let r = tables::check(parents, work);
     print::verdict(r);
     print::after(work);
+    print::text(b"\n");
 }
 
+// Runs the lines of standard input, and then the large sheets.
 fn main() {
-    let mut text = io::buffer();
+    let mut text = io::large_buffer();
     let n = io::read_full(0, &mut text);
     cases::run_all(&text[..n]);
     large::accepted();
     large::sizes();
     large::refused();
     large::cycles();
+    large::size_of_tables();
+    large::tables();
 }

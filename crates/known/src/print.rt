@@ -13,19 +13,50 @@ pub fn number(n: u64) {
     io::print_decimal(1, n);
 }
 
-// A sheet's entries, and how many cells of work are lent with it.
-pub fn sheet(parents: &[u16], cells: u64) {
-    if parents.len() == 0 {
-        text(b"no entries ");
-    }
-    let mut v = 0;
-    while v < parents.len() {
-        number(parents[v] as u64);
+// The number of a cell, with a space before it if it is not the first.
+fn cell(i: usize, x: u16) {
+    if 0 < i {
         text(b" ");
-        v += 1;
     }
-    text(b"with ");
-    number(cells);
+    number(x as u64);
+}
+
+// The numbers of a list, parted by spaces.
+pub fn list(cells: &[u16]) {
+    let mut i = 0;
+    while i < cells.len() {
+        cell(i, cells[i]);
+        i += 1;
+    }
+}
+
+// A sheet's entries.
+pub fn entries(parents: &[u16]) {
+    if parents.len() == 0 {
+        text(b"no entries");
+    }
+    list(parents);
+}
+
+// How many cells of the four buffers are lent.
+pub fn lent(label: usize, tour: usize, lift: usize, work: usize) {
+    text(b" with ");
+    number(label as u64);
+    text(b" ");
+    number(tour as u64);
+    text(b" ");
+    number(lift as u64);
+    text(b" ");
+    number(work as u64);
+}
+
+// The places of damaged cells.
+pub fn damaged(places: &[u16]) {
+    text(b", damaged at ");
+    if places.len() == 0 {
+        text(b"no place");
+    }
+    list(places);
 }
 
 // ": accepted", or ": refused N at P".
@@ -42,19 +73,19 @@ pub fn verdict(r: Outcome) {
     }
 }
 
-// Whether work is all zero or as it was, all sevens.
+// Whether work is as it was, all sevens, or all zero.
 pub fn after(work: &[u16]) {
-    if all(work, 0) {
-        text(b", work zero\n");
-    } else if all(work, 7) {
-        text(b", work kept\n");
+    if all(work, 7) {
+        text(b", work kept");
+    } else if all(work, 0) {
+        text(b", work zero");
     } else {
-        text(b", work neither zero nor kept\n");
+        text(b", work neither zero nor kept");
     }
 }
 
 // Each cell holds x.
-fn all(cells: &[u16], x: u16) -> bool {
+pub fn all(cells: &[u16], x: u16) -> bool {
     let mut i = 0;
     while i < cells.len() {
         if cells[i] != x {

@@ -35,3 +35,14 @@ pub fn chain_up(parents: &mut [u16]) {
         v += 1;
     }
 }
+
+// A tree of no order: part v, if it is not 0, is bolted into part (40503 v + 12829) mod 65536 mod v, and part 0 into itself.
+pub fn scatter(parents: &mut [u16]) {
+    put(parents, 0, 0);
+    let mut v = 1;
+    while v < parents.len() {
+        let x = (v % 65536 * 40503 + 12829) % 65536;
+        parents[v] = (x % v % 65536) as u16;
+        v += 1;
+    }
+}

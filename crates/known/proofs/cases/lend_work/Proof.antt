@@ -1,11 +1,11 @@
--- `known::cases::run_sheet` lends no more of work than there is.
+-- `known::cases::lend_work` lends no more of work than there is.
 -- Assumes nothing.
-use native.Mathlib.Omega.{arith}
 use mathlib.Core.Path.{sym}
-use borrow.Author.Needs.{needs}
 use lib.Seq.{length-take-le}
-use Rattle.known.proofs.cases.run_sheet.Statement.{statement}
-use Rattle.known.proofs.cases.run_sheet.Tie as tie
+use native.Mathlib.Omega.{arith}
+use borrow.Author.Needs.{needs}
+use Rattle.known.proofs.cases.lend_work.Statement.{statement}
+use Rattle.known.proofs.cases.lend_work.Tie as tie
 
 returns : tie.Need-returns
 returns c = search needs
@@ -34,14 +34,23 @@ part-parents-start c = search needs
 part-parents-end : tie.Need-part-parents-end
 part-parents-end c = search needs
 
-sheet-requires : tie.Need-sheet-requires
-sheet-requires c κs = search needs
+entries-requires : tie.Need-entries-requires
+entries-requires c κs = search needs
+
+slice-aggregate-text-2 : tie.Need-slice-aggregate-text-2
+slice-aggregate-text-2 c = search needs
+
+text-requires-2 : tie.Need-text-requires-2
+text-requires-2 c κs = search needs
+
+number-requires : tie.Need-number-requires
+number-requires c κs = search needs
 
 slice-relend-prefix-run : tie.Need-slice-relend-prefix-run
 slice-relend-prefix-run c = search needs
 
 slice-aggregate-run : tie.Need-slice-aggregate-run
-slice-aggregate-run c = sym (length-take-le _ _ (c .before .before .before .if2 .left))
+slice-aggregate-run c = sym (length-take-le _ _ (c .before .before .before .before .before .before .if2 .left))
 
 run-requires : tie.Need-run-requires
 run-requires c κs = search needs
@@ -52,8 +61,8 @@ same-length c = search needs
 returns-3 : tie.Need-returns-3
 returns-3 c = search needs
 
-pub run-sheet-spec : {M : Type 1} → statement M
-run-sheet-spec =
+pub lend-work-spec : {M : Type 1} → statement M
+lend-work-spec =
     tie.close
     (tie.spec
     returns
@@ -65,7 +74,10 @@ run-sheet-spec =
     sub-parents
     part-parents-start
     part-parents-end
-    sheet-requires
+    entries-requires
+    slice-aggregate-text-2
+    text-requires-2
+    number-requires
     slice-relend-prefix-run
     slice-aggregate-run
     run-requires
