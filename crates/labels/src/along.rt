@@ -4,12 +4,11 @@ ghost use mathlib.Core.Path.{_≡_};
 ghost use mathlib.Core.Bool.{cond};
 ghost use lib.Dec.{eqb};
 ghost use lib.ListN.{length};
-ghost use Prim.Native.Nat.{_+_, _*_, _≤_};
+ghost use Prim.Native.Nat.{_+_, _≤_};
 ghost use Rattle.bits.specs.Bits.{lowestOne};
-ghost use Rattle.tree.specs.Labels.{labelTable};
 ghost use Rattle.tree.specs.Sections.{Same};
 ghost use Rattle.tree.specs.Preorder.{preorder};
-ghost use Rattle.tree.specs.Ready.{Ready, Columns};
+ghost use Rattle.tree.specs.Ready.{Ready, Columns, ColumnIn};
 
 // The nodes in preorder, into the first n cells of work.
 pub(crate) fn order(parents: &[u16], label: &[u16], work: &mut [u16])
@@ -27,7 +26,7 @@ pub(crate) fn order(parents: &[u16], label: &[u16], work: &mut [u16])
 // LEVEL, from the order in the first n cells of work into the next n.
 pub(crate) fn levels(parents: &[u16], work: &mut [u16])
     requires { ⌜ Ready (now parents) (now work) × Same (now work) 0 (preorder (now parents)) 0 (length (now parents)) ⌝ }
-    ensures { λ _. ⌜ Same (now (work .exit)) (length (now (parents .entry))) (labelTable (now (parents .entry))) (2 * length (now (parents .entry))) (length (now (parents .entry))) ⌝ }
+    ensures { λ _. ⌜ ColumnIn (now (parents .entry)) (now (work .exit)) 2 ⌝ }
 {
     let n = parents.len();
     work[n + work[0] as usize] = 0;
@@ -42,7 +41,7 @@ pub(crate) fn levels(parents: &[u16], work: &mut [u16])
 // ASCENDANT, from the order in the first n cells of work into the next n.
 pub(crate) fn ascendants(parents: &[u16], label: &[u16], work: &mut [u16])
     requires { ⌜ Columns (now parents) (now label) (now work) 4 × Same (now work) 0 (preorder (now parents)) 0 (length (now parents)) ⌝ }
-    ensures { λ _. ⌜ Same (now (work .exit)) (length (now (parents .entry))) (labelTable (now (parents .entry))) (4 * length (now (parents .entry))) (length (now (parents .entry))) ⌝ }
+    ensures { λ _. ⌜ ColumnIn (now (parents .entry)) (now (work .exit)) 4 ⌝ }
 {
     let n = parents.len();
     work[n + work[0] as usize] = 1 << bits::log2(n as u16);

@@ -10,7 +10,7 @@ ghost use lib.ListN.{length};
 ghost use Rattle.tree.specs.Tree.{rootOf};
 ghost use Rattle.tree.specs.Labels.{labelTable, topmost};
 ghost use Rattle.tree.specs.Sections.{Same};
-ghost use Rattle.tree.specs.Ready.{Ready, Columns};
+ghost use Rattle.tree.specs.Ready.{Ready, Columns, ColumnIn};
 
 // No cell.
 const NONE: u16 = 65535;
@@ -27,7 +27,7 @@ pub fn numbers(parents: &[u16], root: usize, work: &mut [u16])
 // Column k, from 2 on, into the n cells of work from n on.
 pub fn column(k: usize, parents: &[u16], root: usize, label: &[u16], work: &mut [u16])
     requires { ⌜ (2 ≤ k) × (k < 6) × Columns (now parents) (now label) (now work) k × (root ≡ rootOf (now parents)) ⌝ }
-    ensures { λ _. ⌜ Same (now (work .exit)) (length (now (parents .entry))) (labelTable (now (parents .entry))) (k * length (now (parents .entry))) (length (now (parents .entry))) ⌝ }
+    ensures { λ _. ⌜ ColumnIn (now (parents .entry)) (now (work .exit)) k ⌝ }
 {
     if k == 2 {
         return levels(parents, label, work);
@@ -44,7 +44,7 @@ pub fn column(k: usize, parents: &[u16], root: usize, label: &[u16], work: &mut 
 // LEVEL, into the n cells of work from n on.
 fn levels(parents: &[u16], label: &[u16], work: &mut [u16])
     requires { ⌜ Columns (now parents) (now label) (now work) 2 ⌝ }
-    ensures { λ _. ⌜ Same (now (work .exit)) (length (now (parents .entry))) (labelTable (now (parents .entry))) (2 * length (now (parents .entry))) (length (now (parents .entry))) ⌝ }
+    ensures { λ _. ⌜ ColumnIn (now (parents .entry)) (now (work .exit)) 2 ⌝ }
 {
     along::order(parents, label, work);
     along::levels(parents, work);
@@ -53,7 +53,7 @@ fn levels(parents: &[u16], label: &[u16], work: &mut [u16])
 // INLABEL, into the n cells of work from n on.
 fn inlabels(parents: &[u16], label: &[u16], work: &mut [u16])
     requires { ⌜ Columns (now parents) (now label) (now work) 2 ⌝ }
-    ensures { λ _. ⌜ Same (now (work .exit)) (length (now (parents .entry))) (labelTable (now (parents .entry))) (3 * length (now (parents .entry))) (length (now (parents .entry))) ⌝ }
+    ensures { λ _. ⌜ ColumnIn (now (parents .entry)) (now (work .exit)) 3 ⌝ }
 {
     let n = parents.len();
     let mut v = 0;
@@ -75,7 +75,7 @@ fn inlabel(preorder: u16, size: u16) -> u16
 // ASCENDANT, into the n cells of work from n on.
 fn ascendants(parents: &[u16], label: &[u16], work: &mut [u16])
     requires { ⌜ Columns (now parents) (now label) (now work) 4 ⌝ }
-    ensures { λ _. ⌜ Same (now (work .exit)) (length (now (parents .entry))) (labelTable (now (parents .entry))) (4 * length (now (parents .entry))) (length (now (parents .entry))) ⌝ }
+    ensures { λ _. ⌜ ColumnIn (now (parents .entry)) (now (work .exit)) 4 ⌝ }
 {
     along::order(parents, label, work);
     along::ascendants(parents, label, work);
@@ -84,7 +84,7 @@ fn ascendants(parents: &[u16], label: &[u16], work: &mut [u16])
 // HEAD, into the n cells of work from n on. A node is the head of its INLABEL where its parent's is another; the root is the head of its own.
 fn heads(parents: &[u16], root: usize, label: &[u16], work: &mut [u16])
     requires { ⌜ Columns (now parents) (now label) (now work) 4 × (root ≡ rootOf (now parents)) ⌝ }
-    ensures { λ _. ⌜ Same (now (work .exit)) (length (now (parents .entry))) (labelTable (now (parents .entry))) (5 * length (now (parents .entry))) (length (now (parents .entry))) ⌝ }
+    ensures { λ _. ⌜ ColumnIn (now (parents .entry)) (now (work .exit)) 5 ⌝ }
 {
     let n = parents.len();
     cells::fill(work, n, n, NONE);

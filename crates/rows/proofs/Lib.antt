@@ -1,3 +1,4 @@
+-- Laws about this crate's loops. Assumes nothing.
 pub mod Stores
 pub mod Choice
 pub mod Doubled

@@ -21,3 +21,7 @@ pub record Columns (s label work : List ℕ) (k : ℕ) : Type 0 where
   pub ready : Ready s work
   pub cells : length label ≡ labelCells (length s)
   pub own : Same label 0 (labelTable s) 0 (k * length s)
+
+-- column k of the sheet's own label table, in the n cells of work from n on
+abbrev pub ColumnIn : List ℕ → List ℕ → ℕ → Type 0
+ColumnIn s work k = Same work (length s) (labelTable s) (k * length s) (length s)

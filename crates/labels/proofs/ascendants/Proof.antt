@@ -11,9 +11,11 @@ order-requires c κs = columns-fewer (omega arith) (c .before .before .before .b
 
 ascendants-requires : tie.Need-ascendants-requires
 ascendants-requires c κs =
-    let cs = c .before .before .before .before .before .before .before .before .pre in
+    let c3 = c .before .before .before in
+    let c8 = c3 .before .before .before .before .before in
+    let cs = c8 .pre in
     let r = cs .ready in
-    (record { ready = record { tree = r .tree; small = r .small; room = search needs }; cells = cs .cells; own = cs .own }, c .before .before .before .order .ensures)
+    (record { ready = record { tree = r .tree; small = r .small; room = search needs }; cells = cs .cells; own = cs .own }, c3 .order .ensures)
 
 same-length : tie.Need-same-length
 same-length c = search needs

@@ -59,8 +59,8 @@ loop-less c = search needs
 
 loop-again : tie.Need-loop-again Inv-loop μ-loop
 loop-again c =
-    let s = c .before .before .before .before .before .before .before .before in
     let w = c .before .before .before in
+    let s = w .before .before .before .before .before in
     let l = w .before .loop in
     let e = interval-inlabel (w .loop-test .taken) (s .pre) in
     (search needs, filling-store (l .inv .1) (l .v) refl (omega arith) (c .inlabel .ensures ∙ e) (λ x h k. by-equal x (l .v) inl (λ q. inr (omega arith))))

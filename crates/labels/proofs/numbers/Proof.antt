@@ -10,8 +10,9 @@ link-requires c κs = search needs
 
 walk-requires : tie.Need-walk-requires
 walk-requires c κs =
-    let s = c .before .before .before .before .before .before .before in
-    let k = c .before .before .before .link in
+    let c3 = c .before .before .before in
+    let s = c3 .before .before .before .before in
+    let k = c3 .link in
     record { ready = record { tree = s .pre .0 .tree; small = s .pre .0 .small; room = k .kept .1 .0 ∙ s .pre .0 .room }; is = s .pre .1; links = k .ensures }
 
 same-length : tie.Need-same-length

@@ -66,10 +66,13 @@ loop-less c = search needs
 
 loop-again : tie.Need-loop-again Inv-loop μ-loop
 loop-again c =
-    let t = c .before .before .before .before .before .before .before .before .pre .ready .tree in
-    let l = c .before .before .before .before .loop in
-    let h = c .before .before .before .loop-test .taken in
-    let d = facts (c .before .before .before) in
+    let c3 = c .before .before .before in
+    let c4 = c3 .before in
+    let c8 = c4 .before .before .before .before in
+    let t = c8 .pre .ready .tree in
+    let l = c4 .loop in
+    let h = c3 .loop-test .taken in
+    let d = facts (c3) in
     (omega arith, simp length-set (l .inv .1), same-store (omega arith) (l .inv .2) (c .first-visit .ensures ∙ d .is ∙ sym (first-cell _ (l .v) (tour-length t) h)))
 
 same-length : tie.Need-same-length Inv-loop μ-loop

@@ -16,7 +16,9 @@ use Rattle.rows.proofs.next_row.Statement.{statement}
 use Rattle.rows.proofs.next_row.Tie as tie
 
 abbrev Inv-loop : tie.InvT-loop
-Inv-loop parents tour at half work₀ n end i₀ work i = (i ≤ 2 * length parents - 2 * half) × (length work ≡ length work₀) × Levels parents work × Same work 0 (tourTable parents) (at + visits (length parents)) i
+Inv-loop parents tour at half work₀ n end i₀ work i =
+    (i ≤ 2 * length parents - 2 * half) × (length work ≡ length work₀) × Levels parents work
+    × Same work 0 (tourTable parents) (at + visits (length parents)) i
 
 abbrev μ-loop : tie.MeasureT-loop
 μ-loop parents tour at half work₀ n end i₀ work i = 2 * length parents - 2 * half - i
@@ -110,8 +112,10 @@ loop-less c = search needs
 
 loop-again : tie.Need-loop-again Inv-loop μ-loop
 loop-again c =
-    let l = c .before .before .before .before .before .before .loop in
-    let d = facts (c .before .before .before .before .before) in
+    let c5 = c .before .before .before .before .before in
+    let c6 = c5 .before in
+    let l = c6 .loop in
+    let d = facts (c5) in
     (omega arith, simp length-set (l .inv .1), levels-keep (l .i) _ (omega arith) (l .inv .2), same-store (omega arith) (l .inv .3) (c .leftmost .ensures ∙ d .chosen))
 
 mul-fill : tie.Need-mul-fill Inv-loop μ-loop

@@ -17,7 +17,8 @@ first-unfit-requires c κs = search needs
 
 admit-requires : tie.Need-admit-requires
 admit-requires c κs =
-    found-work (lent (c .before .before .before .before .before .before .before)) (c .before .before .before .before .before .before .before .args .work .now) (c .before .before .before .before .before .before .before .args .further) _ (c .before .first-unfit .ensures)
+    let c7 = c .before .before .before .before .before .before .before in
+    found-work (lent (c7)) (c7 .args .work .now) (c7 .args .further) _ (c .before .first-unfit .ensures)
 
 enum-told : tie.Need-enum-told
 enum-told c = search needs
@@ -30,12 +31,18 @@ same-length c = search needs
 
 returns : tie.Need-returns
 returns c =
-    lent-refused (lent (c .before .before .before .before .before .before .before .before .before .before .before .before)) _ (c .before .before .before .before .before .before .before .before .before .before .before .before .args .further) _ (c .before .before .before .before .before .before .first-unfit .ensures) (c .before .before .before .before .admit .ensures) (c .enum-told2 .given .1)
+    let c4 = c .before .before .before .before in
+    let c6 = c4 .before .before in
+    let c12 = c6 .before .before .before .before .before .before in
+    lent-refused (lent (c12)) _ (c12 .args .further) _ (c6 .first-unfit .ensures) (c4 .admit .ensures) (c .enum-told2 .given .1)
 
 tables-requires : tie.Need-tables-requires
 tables-requires c κs =
-    tested-fits (lent (c .before .before .before .before .before .before .before .before .before .before .before .before .before)) _ (c .before .before .before .before .before .before .before .before .before .before .before .before .before .args .further) _ (c .before .before .before .before .before .before .before .first-unfit .ensures) (c .before .before .before .before .before .admit .ensures) (c .before .enum-told .given .1)
-    (c .before .before .before .before .before .admit .kept .1 .1 .0)
+    let c5 = c .before .before .before .before .before in
+    let c7 = c5 .before .before in
+    let c13 = c7 .before .before .before .before .before .before in
+    tested-fits (lent (c13)) _ (c13 .args .further) _ (c7 .first-unfit .ensures) (c5 .admit .ensures) (c .before .enum-told .given .1)
+    (c5 .admit .kept .1 .1 .0)
 
 clear-requires : tie.Need-clear-requires
 clear-requires c κs = search needs
@@ -45,11 +52,15 @@ same-length-2 c = search needs
 
 returns-2 : tie.Need-returns-2
 returns-2 c =
-    let s = c .before .before .before .before .before .before .before .before .before .before .before .before .before .before .before .before .before .before .before .before in
-    let m = c .before .before .before .before .before .before .tables in
-    let a = c .before .before .before .before .before .before .before .before .before .before .before .before .admit in
+    let c6 = c .before .before .before .before .before .before in
+    let c8 = c6 .before .before in
+    let c12 = c8 .before .before .before .before in
+    let c14 = c12 .before .before in
+    let s = c14 .before .before .before .before .before .before in
+    let m = c6 .tables in
+    let a = c12 .admit in
     let same = m .kept .1 .1 .1 .1 .0 ∙ a .kept .1 .1 .0 in
-    lent-compared (lent s) _ (s .args .further) _ (c .before .before .before .before .before .before .before .before .before .before .before .before .before .before .first-unfit .ensures) (a .ensures) (c .before .before .before .before .before .before .before .before .enum-told .given .1) (m .ensures)
+    lent-compared (lent s) _ (s .args .further) _ (c14 .first-unfit .ensures) (a .ensures) (c8 .enum-told .given .1) (m .ensures)
     (c .before .before .clear .ensures ∙ ap (λ k. replicate k 0) same)
 
 pub admit-lent-spec : {M : Type 1} → statement M

@@ -15,7 +15,8 @@ first-unfit-requires c κs = search needs
 
 admit-requires : tie.Need-admit-requires
 admit-requires c κs =
-    found-work (lent (c .before .before .before .before .before .before .before)) (c .before .before .before .before .before .before .before .args .work .now) 0 _ (c .before .first-unfit .ensures)
+    let c7 = c .before .before .before .before .before .before .before in
+    found-work (lent (c7)) (c7 .args .work .now) 0 _ (c .before .first-unfit .ensures)
 
 enum-told : tie.Need-enum-told
 enum-told c = search needs
@@ -28,11 +29,16 @@ same-length c = search needs
 
 returns : tie.Need-returns
 returns c =
-    build-refused _ _ _ (c .before .before .before .before .before .before .first-unfit .ensures) (c .before .before .before .before .admit .ensures) (c .enum-told2 .given .1)
+    let c4 = c .before .before .before .before in
+    let c6 = c4 .before .before in
+    build-refused _ _ _ (c6 .first-unfit .ensures) (c4 .admit .ensures) (c .enum-told2 .given .1)
 
 tables-requires : tie.Need-tables-requires
 tables-requires c κs =
-    tested-fits _ _ 0 _ (c .before .before .before .before .before .before .before .before .before .before .first-unfit .ensures) (c .before .before .before .before .before .before .before .before .admit .ensures) (c .before .before .before .before .enum-told .given .1) (c .before .before .before .before .before .before .before .before .admit .kept .1 .1 .0)
+    let c4 = c .before .before .before .before in
+    let c8 = c4 .before .before .before .before in
+    let c10 = c8 .before .before in
+    tested-fits _ _ 0 _ (c10 .first-unfit .ensures) (c8 .admit .ensures) (c4 .enum-told .given .1) (c8 .admit .kept .1 .1 .0)
 
 same-length-2 : tie.Need-same-length-2
 same-length-2 c = search needs
@@ -48,8 +54,12 @@ same-length-5 c = search needs
 
 returns-2 : tie.Need-returns-2
 returns-2 c =
-    build-accepted _ _ _ (c .before .before .before .before .before .before .before .before .before .before .before .before .before .before .before .before .before .before .before .first-unfit .ensures) (c .before .before .before .before .before .before .before .before .before .before .before .before .before .before .before .before .before .admit .ensures) (c .before .before .before .before .before .before .before .before .before .before .before .before .before .enum-told .given .1) (c .before .before .before .before .before .before .before .before .before .before .before .before .before .before .before .before .before .admit .kept .1 .1 .0)
-    (c .before .before .before .before .before .before .before .before .tables .ensures)
+    let c8 = c .before .before .before .before .before .before .before .before in
+    let c13 = c8 .before .before .before .before .before in
+    let c17 = c13 .before .before .before .before in
+    let c19 = c17 .before .before in
+    build-accepted _ _ _ (c19 .first-unfit .ensures) (c17 .admit .ensures) (c13 .enum-told .given .1) (c17 .admit .kept .1 .1 .0)
+    (c8 .tables .ensures)
 
 pub build-spec : {M : Type 1} → statement M
 build-spec =

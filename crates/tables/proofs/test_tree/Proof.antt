@@ -77,8 +77,9 @@ same-length c = search needs
 
 returns-4 : tie.Need-returns-4
 returns-4 c =
-    let e = c .before .before .before .first-cycle .ensures in
-    let d = c .before .before .before .before .before in
+    let c3 = c .before .before .before in
+    let d = c3 .before .before in
+    let e = c3 .first-cycle .ensures in
     ap (refused 7) e ∙ sym (refused-cycle _ (entries (d .before .before .before .before)) (below (d .before .before)) (none d) (rw e at (c .if4 .taken)))
 
 same-length-2 : tie.Need-same-length-2

@@ -10,7 +10,9 @@ use Rattle.known.proofs.lend.other.Statement.{statement}
 use Rattle.known.proofs.lend.other.Tie as tie
 
 slice-aggregate-first : tie.Need-slice-aggregate-first
-slice-aggregate-first c = let h : length (c .before .before .before .before .before .before .args .numbers .now) / 2 ≤ length (c .before .before .before .before .before .before .args .numbers .now) = omega arith in sym (length-take-le _ _ h)
+slice-aggregate-first c =
+    let c6 = c .before .before .before .before .before .before in
+    let h : length (c6 .args .numbers .now) / 2 ≤ length (c6 .args .numbers .now) = omega arith in sym (length-take-le _ _ h)
 
 mul-second : tie.Need-mul-second
 mul-second c = search needs

@@ -137,8 +137,8 @@ loop-less c = search needs
 
 loop-again : tie.Need-loop-again Inv-loop μ-loop
 loop-again c =
-    let s = c .before .before .before .before .before .before .before .before .before .before .before .before .before in
     let w = c .before .before .before .before .before .before in
+    let s = w .before .before .before .before .before .before .before in
     let l = w .before .loop .inv in
     (search needs, search needs, along-step (s .pre .0 .ready .tree) (l .2) (w .loop-test .taken) (c .ascend .ensures ∙ ascend-is (s .pre .0) (here w)))
 

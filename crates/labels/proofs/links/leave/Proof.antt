@@ -59,7 +59,8 @@ slice-read-if1 c = search needs
 
 cast-if1 : tie.Need-cast-if1 Inv-loop μ-loop
 cast-if1 c =
-    omega (arith, c .slice-known3 .given (length (c .before .before .before .before .before .before .before .before .args .parents .now) + c .before .loop .u))
+    let c8 = c .before .before .before .before .before .before .before .before in
+    omega (arith, c .slice-known3 .given (length (c8 .args .parents .now) + c .before .loop .u))
 
 mul-if2 : tie.Need-mul-if2 Inv-loop μ-loop
 mul-if2 c = search needs
@@ -95,16 +96,21 @@ close-requires-2 c κs =
 loop-less : tie.Need-loop-less Inv-loop μ-loop
 unfolding parent
 loop-less c =
-    let s = c .before .before .before .before .before .before .before .before .before .before .before .before .before .before .before .before in
-    let l = c .before .before .before .before .before .before .before .before .before .loop .inv .1 in
-    let up = level-parent (s .pre .numbered .ready .tree) _ (l .node) (eqb-false _ _ (not-true _ (c .before .before .before .before .before .if2 .taken))) in
+    let c5 = c .before .before .before .before .before in
+    let c9 = c5 .before .before .before .before in
+    let s = c9 .before .before .before .before .before .before .before in
+    let l = c9 .loop .inv .1 in
+    let up = level-parent (s .pre .numbered .ready .tree) _ (l .node) (eqb-false _ _ (not-true _ (c5 .if2 .taken))) in
     omega arith
 
 loop-again : tie.Need-loop-again Inv-loop μ-loop
 unfolding parent
 loop-again c =
-    let l = c .before .before .before .before .before .before .before .before .before .loop .inv in
-    (c .before .before .close2 .kept .1 .1 .1 .0 ∙ l .0, rw (c .before .before .close2 .ensures) (leaving-up (l .1) (c .before .before .before .before .before .before .before .if1 .taken) (eqb-false _ _ (not-true _ (c .before .before .before .before .before .if2 .taken)))))
+    let c5 = c .before .before .before .before .before in
+    let c7 = c5 .before .before in
+    let c9 = c7 .before .before in
+    let l = c9 .loop .inv in
+    (c .before .before .close2 .kept .1 .1 .1 .0 ∙ l .0, rw (c .before .before .close2 .ensures) (leaving-up (l .1) (c7 .if1 .taken) (eqb-false _ _ (not-true _ (c5 .if2 .taken)))))
 
 add-result : tie.Need-add-result Inv-loop μ-loop
 add-result c = search needs
@@ -117,7 +123,9 @@ slice-read-result c = search needs
 
 cast-result : tie.Need-cast-result Inv-loop μ-loop
 cast-result c =
-    omega (arith, c .slice-known5 .given (length (c .before .before .before .before .before .before .before .before .before .before .args .parents .now) + c .before .before .before .loop .u))
+    let c3 = c .before .before .before in
+    let c10 = c3 .before .before .before .before .before .before .before in
+    omega (arith, c .slice-known5 .given (length (c10 .args .parents .now) + c3 .loop .u))
 
 same-length : tie.Need-same-length Inv-loop μ-loop
 same-length c = search needs

@@ -46,13 +46,17 @@ cast-p c = omega (arith, c .shared-slice-known2 .given (c .before .before .loop 
 mul-work : tie.Need-mul-work Inv-loop μ-loop
 unfolding parent
 mul-work c =
-    let inside = c .before .before .before .before .before .before .before .before .before .before .pre .tree .inside (c .before .before .before .loop .i - 1) (omega arith) in
+    let c3 = c .before .before .before in
+    let c10 = c3 .before .before .before .before .before .before .before in
+    let inside = c10 .pre .tree .inside (c3 .loop .i - 1) (omega arith) in
     omega arith
 
 slice-read-work : tie.Need-slice-read-work Inv-loop μ-loop
 unfolding parent
 slice-read-work c =
-    let inside = c .before .before .before .before .before .before .before .before .before .before .before .pre .tree .inside (c .before .before .before .before .loop .i - 1) (omega arith) in
+    let c4 = c .before .before .before .before in
+    let c11 = c4 .before .before .before .before .before .before .before in
+    let inside = c11 .pre .tree .inside (c4 .loop .i - 1) (omega arith) in
     omega arith
 
 add-work : tie.Need-add-work Inv-loop μ-loop
@@ -70,15 +74,19 @@ cast-work c = search needs
 mul-work-3 : tie.Need-mul-work-3 Inv-loop μ-loop
 unfolding parent
 mul-work-3 c =
-    let inside = c .before .before .before .before .before .before .before .before .before .before .before .pre .tree .inside (c .before .before .before .before .loop .i - 1) (omega arith) in
+    let c4 = c .before .before .before .before in
+    let c11 = c4 .before .before .before .before .before .before .before in
+    let inside = c11 .pre .tree .inside (c4 .loop .i - 1) (omega arith) in
     omega arith
 
 slice-write-work-2 : tie.Need-slice-write-work-2 Inv-loop μ-loop
 unfolding parent
 slice-write-work-2 c =
-    let l = c .before .before .before .before .loop in
-    let inside = c .before .before .before .before .before .before .before .before .before .before .before .pre .tree .inside (l .i - 1) (omega arith) in
-    let b : getD (c .before .before .before .before .before .before .before .before .before .before .before .args .parents .now) (l .i - 1) 0 < length (l .work) = omega arith in
+    let c4 = c .before .before .before .before in
+    let c11 = c4 .before .before .before .before .before .before .before in
+    let l = c4 .loop in
+    let inside = c11 .pre .tree .inside (l .i - 1) (omega arith) in
+    let b : getD (c11 .args .parents .now) (l .i - 1) 0 < length (l .work) = omega arith in
     simp length-set b
 
 loop-less : tie.Need-loop-less Inv-loop μ-loop
@@ -87,11 +95,13 @@ loop-less c = search needs
 loop-again : tie.Need-loop-again Inv-loop μ-loop
 unfolding parent
 loop-again c =
-    let l = c .before .before .before .before .loop in
+    let c4 = c .before .before .before .before in
+    let c11 = c4 .before .before .before .before .before .before .before in
+    let l = c4 .loop in
     let k = l .i - 1 in
     let e : l .i ≡ suc k = omega arith in
-    let b : k < length (c .before .before .before .before .before .before .before .before .before .before .before .args .parents .now) = omega arith in
-    let again = linking-child b (c .before .before .before .before .before .before .before .before .before .before .before .pre .tree .inside k b) (c .before .if1 .taken) (rw e at (l .inv .2)) in
+    let b : k < length (c11 .args .parents .now) = omega arith in
+    let again = linking-child b (c11 .pre .tree .inside k b) (c .before .if1 .taken) (rw e at (l .inv .2)) in
     (omega arith, simp length-set (l .inv .1), again)
 
 loop-less-2 : tie.Need-loop-less-2 Inv-loop μ-loop

@@ -63,8 +63,10 @@ cast-child c = omega (arith, c .slice-known2 .given (c .before .before .loop .v)
 
 leave-requires : tie.Need-leave-requires Inv-loop μ-loop
 leave-requires c κs =
-    let l = c .before .before .before .before .loop in
-    let b = c .before .before .before .loop-test .taken in
+    let c3 = c .before .before .before in
+    let c4 = c3 .before in
+    let l = c4 .loop in
+    let b = c3 .loop-test .taken in
     let node = l .inv .3 .node b in
     let more = numbered-more b (l .inv .3) (l .inv .2) in
     record { numbered = more; node = node; number = l .inv .3 .number b ∙ sym (add-one (l .k)); childless = rw (more .links .child (l .v) node) at (c .before .if1 .left) }

@@ -47,30 +47,41 @@ copy-requires c κs =
 
 loop-holds : tie.Need-loop-holds Inv-loop μ-loop
 loop-holds c =
-    let s = c .before .before .before .before .before .before .before .before .before .before .before .before .before in
+    let c7 = c .before .before .before .before .before .before .before in
+    let s = c7 .before .before .before .before .before .before in
     let k = c .before .before .copy in
-    let m = c .before .before .before .before .before .before .before .numbers in (
+    let m = c7 .numbers in
+    let own = rw zero-add at (copied-upto (same-none _ _ _ _) (k .ensures) (m .ensures)) in (
       search needs,
       search needs,
-      record { ready = ready-kept (s .pre .0) (m .kept .1 .1 .0); cells = k .kept .0 ∙ s .pre .1; own = rw zero-add at (copied-upto (same-none _ _ _ _) (k .ensures) (m .ensures)) },
+      record { ready = ready-kept (s .pre .0) (m .kept .1 .1 .0); cells = k .kept .0 ∙ s .pre .1; own = own },
     )
 
 column-requires : tie.Need-column-requires Inv-loop μ-loop
 column-requires c κs =
-    let l = c .before .before .before .loop .inv in
-    (l .0, c .before .before .loop-test .taken, l .2, c .before .before .before .before .before .before .before .before .before .before .before .before .before .next-root .ensures ∙ sym (root-of-next _))
+    let c3 = c .before .before .before in
+    let c13 = c3 .before .before .before .before .before .before .before .before .before .before in
+    let l = c3 .loop .inv in
+    (l .0, c .before .before .loop-test .taken, l .2, c13 .next-root .ensures ∙ sym (root-of-next _))
 
 mul-copy-3 : tie.Need-mul-copy-3 Inv-loop μ-loop
 mul-copy-3 c =
-    let l = c .before .before .before .before .before .before .before .loop .inv in
-    let room = column-room (c .before .before .before .before .before .before .before .loop .k) (length (c .before .before .before .before .before .before .before .before .before .before .before .before .before .before .before .before .before .before .before .before .before .args .parents .now)) (c .before .before .before .before .before .before .loop-test .taken) in
+    let c6 = c .before .before .before .before .before .before in
+    let c7 = c6 .before in
+    let c21 = c7 .before .before .before .before .before .before .before .before .before .before .before .before .before .before in
+    let l = c7 .loop .inv in
+    let room = column-room (c7 .loop .k) (length (c21 .args .parents .now)) (c6 .loop-test .taken) in
     omega (arith, l .2 .ready .small)
 
 copy-requires-2 : tie.Need-copy-requires-2 Inv-loop μ-loop
 copy-requires-2 c κs =
-    let l = c .before .before .before .before .before .before .before .before .loop .inv in
-    let room = column-room (c .before .before .before .before .before .before .before .before .loop .k) (length (c .before .before .before .before .before .before .before .before .before .before .before .before .before .before .before .before .before .before .before .before .before .before .args .parents .now)) (c .before .before .before .before .before .before .before .loop-test .taken) in
-    let kept = c .before .before .before .before .column .kept .1 .1 .1 .1 .0 in
+    let c4 = c .before .before .before .before in
+    let c7 = c4 .before .before .before in
+    let c8 = c7 .before in
+    let c22 = c8 .before .before .before .before .before .before .before .before .before .before .before .before .before .before in
+    let l = c8 .loop .inv in
+    let room = column-room (c8 .loop .k) (length (c22 .args .parents .now)) (c7 .loop-test .taken) in
+    let kept = c4 .column .kept .1 .1 .1 .1 .0 in
     let cells = l .2 .cells in
     let work = l .2 .ready .room in
     (omega arith, omega arith)
@@ -83,9 +94,11 @@ loop-less c = search needs
 
 loop-again : tie.Need-loop-again Inv-loop μ-loop
 loop-again c =
-    let l = c .before .before .before .before .before .before .before .before .before .before .before .loop .inv in
+    let c7 = c .before .before .before .before .before .before .before in
+    let c11 = c7 .before .before .before .before in
+    let l = c11 .loop .inv in
     let k = c .before .before .copy2 in
-    let m = c .before .before .before .before .before .before .before .column in (
+    let m = c7 .column in (
       omega arith,
       omega arith,
       rw add-one (columns-more (ready-kept (l .2 .ready) (m .kept .1 .1 .1 .1 .0)) (k .kept .0 ∙ l .2 .cells) (copied-upto (l .2 .own) (k .ensures) (m .ensures))),
@@ -93,13 +106,15 @@ loop-again c =
 
 same-length : tie.Need-same-length Inv-loop μ-loop
 same-length c =
+    let c15 = c .before .before .before .before .before .before .before .before .before .before .before .before .before .before .before in
     let l = c .before .loop .inv in
-    l .2 .cells ∙ sym (c .before .before .before .before .before .before .before .before .before .before .before .before .before .before .before .pre .1)
+    l .2 .cells ∙ sym (c15 .pre .1)
 
 same-length-2 : tie.Need-same-length-2 Inv-loop μ-loop
 same-length-2 c =
+    let c15 = c .before .before .before .before .before .before .before .before .before .before .before .before .before .before .before in
     let l = c .before .loop .inv in
-    l .2 .ready .room ∙ sym (c .before .before .before .before .before .before .before .before .before .before .before .before .before .before .before .pre .0 .room)
+    l .2 .ready .room ∙ sym (c15 .pre .0 .room)
 
 returns : tie.Need-returns Inv-loop μ-loop
 returns c =

@@ -65,14 +65,19 @@ copy-requires-2 c κs =
 
 loop-less : tie.Need-loop-less Inv-loop μ-loop
 loop-less c =
-    rowwise-less (c .before .before .before .before .before .before .before .before .before .before .before .loop .inv .1) (c .before .before .before .before .before .before .before .before .before .before .loop-test .taken)
+    let c10 = c .before .before .before .before .before .before .before .before .before .before in
+    let c11 = c10 .before in
+    rowwise-less (c11 .loop .inv .1) (c10 .loop-test .taken)
 
 loop-again : tie.Need-loop-again Inv-loop μ-loop
 loop-again c =
-    let l = c .before .before .before .before .before .before .before .before .before .before .before .loop .inv in
+    let c7 = c .before .before .before .before .before .before .before in
+    let c10 = c7 .before .before .before in
+    let c11 = c10 .before in
+    let l = c11 .loop .inv in
     let k = c .before .before .copy2 in
-    let m = c .before .before .before .before .before .before .before .next-lift in
-    (ready-kept (l .0) (m .kept .1 .1 .1 .0), rowwise-next (l .1) (c .before .before .before .before .before .before .before .before .before .before .loop-test .taken) (k .kept .0) (copied-upto (l .1 .same) (k .ensures) (m .ensures)))
+    let m = c7 .next-lift in
+    (ready-kept (l .0) (m .kept .1 .1 .1 .0), rowwise-next (l .1) (c10 .loop-test .taken) (k .kept .0) (copied-upto (l .1 .same) (k .ensures) (m .ensures)))
 
 same-length : tie.Need-same-length Inv-loop μ-loop
 same-length c =

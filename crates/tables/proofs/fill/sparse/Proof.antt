@@ -53,9 +53,10 @@ add-at c = search needs
 
 loop-holds : tie.Need-loop-holds Inv-loop μ-loop
 loop-holds c =
-    let s = c .before .before .before .before .before .before .before .before .before .before .before .before .before .before in
+    let c7 = c .before .before .before .before .before .before .before in
+    let s = c7 .before .before .before .before .before .before .before in
     let k = c .before .before .copy in
-    let m = c .before .before .before .before .before .before .before .first-row in
+    let m = c7 .first-row in
     let r = s .pre .0 .ready in
     (ready-kept r (m .kept .1 .1 .1 .0), m .ensures .0, sparse-rows-start r (k .kept .0 ∙ s .pre .1) (copied-upto (s .pre .2) (k .ensures) (m .ensures .1)))
 
@@ -91,27 +92,34 @@ copy-requires-2 c κs =
 
 loop-less : tie.Need-loop-less Inv-loop μ-loop
 loop-less c =
-    rowwise-less (c .before .before .before .before .before .before .before .before .before .before .before .loop .inv .2) (c .before .before .before .before .before .before .before .before .before .before .loop-test .taken)
+    let c10 = c .before .before .before .before .before .before .before .before .before .before in
+    let c11 = c10 .before in
+    rowwise-less (c11 .loop .inv .2) (c10 .loop-test .taken)
 
 loop-again : tie.Need-loop-again Inv-loop μ-loop
 loop-again c =
-    let l = c .before .before .before .before .before .before .before .before .before .before .before .loop .inv in
+    let c7 = c .before .before .before .before .before .before .before in
+    let c10 = c7 .before .before .before in
+    let c11 = c10 .before in
+    let l = c11 .loop .inv in
     let k = c .before .before .copy2 in
-    let m = c .before .before .before .before .before .before .before .next-row in (
+    let m = c7 .next-row in (
       ready-kept (l .0) (m .kept .1 .1 .1 .1 .0),
       m .ensures .0,
-      rowwise-next (l .2) (c .before .before .before .before .before .before .before .before .before .before .loop-test .taken) (k .kept .0) (copied-upto (l .2 .same) (k .ensures) (m .ensures .1)),
+      rowwise-next (l .2) (c10 .loop-test .taken) (k .kept .0) (copied-upto (l .2 .same) (k .ensures) (m .ensures .1)),
     )
 
 same-length : tie.Need-same-length Inv-loop μ-loop
 same-length c =
+    let c16 = c .before .before .before .before .before .before .before .before .before .before .before .before .before .before .before .before in
     let l = c .before .loop .inv in
-    l .2 .cells ∙ own-tour-length (l .0) ∙ sym (c .before .before .before .before .before .before .before .before .before .before .before .before .before .before .before .before .pre .1)
+    l .2 .cells ∙ own-tour-length (l .0) ∙ sym (c16 .pre .1)
 
 same-length-2 : tie.Need-same-length-2 Inv-loop μ-loop
 same-length-2 c =
+    let c16 = c .before .before .before .before .before .before .before .before .before .before .before .before .before .before .before .before in
     let l = c .before .loop .inv in
-    l .0 .room ∙ sym (c .before .before .before .before .before .before .before .before .before .before .before .before .before .before .before .before .pre .0 .ready .room)
+    l .0 .room ∙ sym (c16 .pre .0 .ready .room)
 
 returns : tie.Need-returns Inv-loop μ-loop
 returns c =

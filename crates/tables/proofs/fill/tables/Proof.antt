@@ -14,13 +14,16 @@ label-requires c κs =
 
 tour-requires : tie.Need-tour-requires
 tour-requires c κs =
-    let s = c .before .before .before .before .before .before .before .before .before .before .before .before .before .before .before in
-    (own-columns (c .before .before .before .before .before .before .before .label .ensures) (ready-kept (s .pre .ready) (c .before .before .before .before .before .before .before .label .kept .1 .1 .0)), s .pre .tour-cells)
+    let c7 = c .before .before .before .before .before .before .before in
+    let s = c7 .before .before .before .before .before .before .before .before in
+    (own-columns (c7 .label .ensures) (ready-kept (s .pre .ready) (c7 .label .kept .1 .1 .0)), s .pre .tour-cells)
 
 lift-requires : tie.Need-lift-requires
 lift-requires c κs =
-    let s = c .before .before .before .before .before .before .before .before .before .before .before .before .before .before .before .before .before .before .before .before .before .before in
-    (ready-kept (s .pre .ready) (c .before .before .before .before .before .before .tour .kept .1 .1 .1 .0 ∙ c .before .before .before .before .before .before .before .before .before .before .before .before .before .before .label .kept .1 .1 .0), s .pre .lift-cells)
+    let c6 = c .before .before .before .before .before .before in
+    let c14 = c6 .before .before .before .before .before .before .before .before in
+    let s = c14 .before .before .before .before .before .before .before .before in
+    (ready-kept (s .pre .ready) (c6 .tour .kept .1 .1 .1 .0 ∙ c14 .label .kept .1 .1 .0), s .pre .lift-cells)
 
 clear-requires : tie.Need-clear-requires
 clear-requires c κs = search needs
@@ -39,12 +42,15 @@ same-length-4 c = search needs
 
 returns : tie.Need-returns
 returns c =
-    let s = c .before .before .before .before .before .before .before .before .before .before .before .before .before .before .before .before .before .before .before .before .before .before .before .before .before .before .before .before .before .before .before in
-    let same = c .before .before .before .before .before .before .before .before .lift .kept .1 .1 .0 ∙ c .before .before .before .before .before .before .before .before .before .before .before .before .before .before .before .tour .kept .1 .1 .1 .0 ∙ c .before .before .before .before .before .before .before .before .before .before .before .before .before .before .before .before .before .before .before .before .before .before .before .label .kept .1 .1 .0 ∙ s .pre .ready .room in
+    let c8 = c .before .before .before .before .before .before .before .before in
+    let c15 = c8 .before .before .before .before .before .before .before in
+    let c23 = c15 .before .before .before .before .before .before .before .before in
+    let s = c23 .before .before .before .before .before .before .before .before in
+    let same = c8 .lift .kept .1 .1 .0 ∙ c15 .tour .kept .1 .1 .1 .0 ∙ c23 .label .kept .1 .1 .0 ∙ s .pre .ready .room in
     record {
-      label = c .before .before .before .before .before .before .before .before .before .before .before .before .before .before .before .before .before .before .before .before .before .before .before .label .ensures;
-      tour = c .before .before .before .before .before .before .before .before .before .before .before .before .before .before .before .tour .ensures;
-      lift = c .before .before .before .before .before .before .before .before .lift .ensures;
+      label = c23 .label .ensures;
+      tour = c15 .tour .ensures;
+      lift = c8 .lift .ensures;
       work = c .before .before .clear .ensures ∙ ap (λ k. replicate k 0) same;
     }
 

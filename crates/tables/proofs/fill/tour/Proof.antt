@@ -34,27 +34,36 @@ copy-requires c κs =
 
 first-visits-requires : tie.Need-first-visits-requires
 first-visits-requires c κs =
-    columns-kept (c .before .before .before .before .before .before .before .before .before .before .before .before .before .before .pre .0) (c .before .before .before .before .before .before .before .before .visits .kept .1 .1 .0)
+    let c8 = c .before .before .before .before .before .before .before .before in
+    let c14 = c8 .before .before .before .before .before .before in
+    columns-kept (c14 .pre .0) (c8 .visits .kept .1 .1 .0)
 
 copy-requires-2 : tie.Need-copy-requires-2
 copy-requires-2 c κs =
-    let s = c .before .before .before .before .before .before .before .before .before .before .before .before .before .before .before .before .before .before .before in
+    let c4 = c .before .before .before .before in
+    let c8 = c4 .before .before .before .before in
+    let c13 = c8 .before .before .before .before .before in
+    let s = c13 .before .before .before .before .before .before in
     let cells = s .pre .1 in
     let room = tour-room (s .pre .0 .ready) in
     let own = own-tour-length (s .pre .0 .ready) in
     let work = s .pre .0 .ready .room in
-    let kept = c .before .before .before .before .first-visits .kept .1 .1 .0 in
-    let kept-before = c .before .before .before .before .before .before .before .before .before .before .before .before .before .visits .kept .1 .1 .0 in
-    let table = c .before .before .before .before .before .before .before .before .copy .kept .0 in
+    let kept = c4 .first-visits .kept .1 .1 .0 in
+    let kept-before = c13 .visits .kept .1 .1 .0 in
+    let table = c8 .copy .kept .0 in
     (omega arith, omega arith)
 
 sparse-requires : tie.Need-sparse-requires
 sparse-requires c κs =
-    let s = c .before .before .before .before .before .before .before .before .before .before .before .before .before .before .before .before .before .before .before .before .before .before .before .before in
-    let tour = rw zero-add at (copied-upto (same-none _ _ _ _) (c .before .before .before .before .before .before .before .before .before .before .before .before .before .copy .ensures) (c .before .before .before .before .before .before .before .before .before .before .before .before .before .before .before .before .before .before .visits .ensures)) in (
-      columns-kept (s .pre .0) (c .before .before .before .before .before .before .before .before .before .first-visits .kept .1 .1 .0 ∙ c .before .before .before .before .before .before .before .before .before .before .before .before .before .before .before .before .before .before .visits .kept .1 .1 .0),
-      c .before .before .before .before .copy2 .kept .0 ∙ c .before .before .before .before .before .before .before .before .before .before .before .before .before .copy .kept .0 ∙ s .pre .1,
-      copied-upto tour (c .before .before .before .before .copy2 .ensures) (c .before .before .before .before .before .before .before .before .before .first-visits .ensures),
+    let c4 = c .before .before .before .before in
+    let c9 = c4 .before .before .before .before .before in
+    let c13 = c9 .before .before .before .before in
+    let c18 = c13 .before .before .before .before .before in
+    let s = c18 .before .before .before .before .before .before in
+    let tour = rw zero-add at (copied-upto (same-none _ _ _ _) (c13 .copy .ensures) (c18 .visits .ensures)) in (
+      columns-kept (s .pre .0) (c9 .first-visits .kept .1 .1 .0 ∙ c18 .visits .kept .1 .1 .0),
+      c4 .copy2 .kept .0 ∙ c13 .copy .kept .0 ∙ s .pre .1,
+      copied-upto tour (c4 .copy2 .ensures) (c9 .first-visits .ensures),
     )
 
 same-length : tie.Need-same-length

@@ -46,12 +46,14 @@ add-if4 c = search needs
 
 mul-if4 : tie.Need-mul-if4
 mul-if4 c =
-    let small = few (2 * c .before .before .before .before .args .n - 1) (c .log2 .result + 2) (omega arith) (omega (arith, c .log2 .ensures .below)) in
+    let c4 = c .before .before .before .before in
+    let small = few (2 * c4 .args .n - 1) (c .log2 .result + 2) (omega arith) (omega (arith, c .log2 .ensures .below)) in
     omega arith
 
 add-if4-2 : tie.Need-add-if4-2
 add-if4-2 c =
-    let small = few (2 * c .before .before .before .before .args .n - 1) (c .log2 .result + 2) (omega arith) (omega (arith, c .log2 .ensures .below)) in
+    let c4 = c .before .before .before .before in
+    let small = few (2 * c4 .args .n - 1) (c .log2 .result + 2) (omega arith) (omega (arith, c .log2 .ensures .below)) in
     omega arith
 
 returns-4 : tie.Need-returns-4
@@ -73,14 +75,17 @@ add-if5 c = search needs
 
 mul-if5 : tie.Need-mul-if5
 mul-if5 c =
-    let small = few (c .before .before .before .before .before .before .args .n) (c .log22 .result + 1) (omega arith) (omega (arith, c .log22 .ensures .below)) in
+    let c6 = c .before .before .before .before .before .before in
+    let small = few (c6 .args .n) (c .log22 .result + 1) (omega arith) (omega (arith, c .log22 .ensures .below)) in
     omega arith
 
 returns-5 : tie.Need-returns-5
 returns-5 c =
+    let c3 = c .before .before .before in
+    let c4 = c3 .before in
     λ h b.
     sym
-    (unfit-later _ _ (eq-eqb _ _ (c .before .before .before .before .if3 .left)) ∙ unfit-later _ _ (eq-eqb _ _ (rw (c .before .before .before .log2 .ensures .is) at (c .before .before .if4 .left)))
+    (unfit-later _ _ (eq-eqb _ _ (c4 .if3 .left)) ∙ unfit-later _ _ (eq-eqb _ _ (rw (c3 .log2 .ensures .is) at (c .before .before .if4 .left)))
     ∙ unfit-here _ _ (ne-eqb _ _ (rw (c .before .log22 .ensures .is) at (c .if5 .taken))))
 
 mul-if6 : tie.Need-mul-if6
@@ -88,16 +93,22 @@ mul-if6 c = search needs
 
 returns-6 : tie.Need-returns-6
 returns-6 c =
+    let c3 = c .before .before .before in
+    let c4 = c3 .before in
+    let c5 = c4 .before in
     λ h b.
     sym
-    (unfit-later _ _ (eq-eqb _ _ (c .before .before .before .before .before .if3 .left)) ∙ unfit-later _ _ (eq-eqb _ _ (rw (c .before .before .before .before .log2 .ensures .is) at (c .before .before .before .if4 .left)))
+    (unfit-later _ _ (eq-eqb _ _ (c5 .if3 .left)) ∙ unfit-later _ _ (eq-eqb _ _ (rw (c4 .log2 .ensures .is) at (c3 .if4 .left)))
     ∙ unfit-later _ _ (eq-eqb _ _ (rw (c .before .before .log22 .ensures .is) at (c .before .if5 .left))) ∙ unfit-here _ _ (ne-eqb _ _ (c .if6 .taken)))
 
 returns-7 : tie.Need-returns-7
 returns-7 c =
+    let c3 = c .before .before .before in
+    let c4 = c3 .before in
+    let c5 = c4 .before in
     λ h b.
     sym
-    (unfit-later _ _ (eq-eqb _ _ (c .before .before .before .before .before .if3 .left)) ∙ unfit-later _ _ (eq-eqb _ _ (rw (c .before .before .before .before .log2 .ensures .is) at (c .before .before .before .if4 .left)))
+    (unfit-later _ _ (eq-eqb _ _ (c5 .if3 .left)) ∙ unfit-later _ _ (eq-eqb _ _ (rw (c4 .log2 .ensures .is) at (c3 .if4 .left)))
     ∙ unfit-later _ _ (eq-eqb _ _ (rw (c .before .before .log22 .ensures .is) at (c .before .if5 .left))) ∙ unfit-later _ _ (eq-eqb _ _ (c .if6 .left))
     ∙ unfit-further _)
 

@@ -60,9 +60,11 @@ returns c =
 
 loop-holds : tie.Need-loop-holds Inv-loop μ-loop
 loop-holds c =
-    let s = c .before .before .before .before .before .before .before .before .before .before .before in
-    let numbers = c .before .before .before .before .before .numbers in
-    (omega arith, omega arith, record { ready = ready-kept (s .pre .0) (numbers .kept .1 .1 .0); cells = s .pre .1; own = agree-all-first (c .before .agree .ensures) (numbers .ensures) (c .if1 .left) })
+    let c5 = c .before .before .before .before .before in
+    let s = c5 .before .before .before .before .before .before in
+    let numbers = c5 .numbers in
+    let own = agree-all-first (c .before .agree .ensures) (numbers .ensures) (c .if1 .left) in
+    (omega arith, omega arith, record { ready = ready-kept (s .pre .0) (numbers .kept .1 .1 .0); cells = s .pre .1; own = own })
 
 column-requires : tie.Need-column-requires Inv-loop μ-loop
 unfolding rootOf
@@ -72,41 +74,57 @@ column-requires c κs =
 
 mul-agree-3 : tie.Need-mul-agree-3 Inv-loop μ-loop
 mul-agree-3 c =
-    let most = room (c .before .before .before .before) in
-    let small = c .before .before .before .before .before .before .before .before .before .before .before .before .before .before .before .before .before .pre .0 .small in
+    let c4 = c .before .before .before .before in
+    let c17 = c4 .before .before .before .before .before .before .before .before .before .before .before .before .before in
+    let most = room (c4) in
+    let small = c17 .pre .0 .small in
     omega arith
 
 agree-requires-2 : tie.Need-agree-requires-2 Inv-loop μ-loop
 agree-requires-2 c κs =
-    let most = room (c .before .before .before .before .before) in
-    let cells = c .before .before .before .before .before .before .before .before .before .before .before .before .before .before .before .before .before .before .pre .1 in
-    let ready = c .before .before .before .before .before .before .loop .inv .2 .ready .room in
-    let kept = c .before .before .before .column .kept .1 .1 .1 .1 .0 in
+    let c3 = c .before .before .before in
+    let c5 = c3 .before .before in
+    let c6 = c5 .before in
+    let c18 = c6 .before .before .before .before .before .before .before .before .before .before .before .before in
+    let most = room (c5) in
+    let cells = c18 .pre .1 in
+    let ready = c6 .loop .inv .2 .ready .room in
+    let kept = c3 .column .kept .1 .1 .1 .1 .0 in
     (omega arith, omega arith)
 
 mul-result : tie.Need-mul-result Inv-loop μ-loop
 mul-result c =
-    let most = room (c .before .before .before .before .before .before .before) in
-    let small = c .before .before .before .before .before .before .before .before .before .before .before .before .before .before .before .before .before .before .before .before .pre .0 .small in
+    let c7 = c .before .before .before .before .before .before .before in
+    let c20 = c7 .before .before .before .before .before .before .before .before .before .before .before .before .before in
+    let most = room (c7) in
+    let small = c20 .pre .0 .small in
     omega arith
 
 add-result : tie.Need-add-result Inv-loop μ-loop
 add-result c =
-    let most = room (c .before .before .before .before .before .before .before) in
-    let small = c .before .before .before .before .before .before .before .before .before .before .before .before .before .before .before .before .before .before .before .before .pre .0 .small in
+    let c7 = c .before .before .before .before .before .before .before in
+    let c20 = c7 .before .before .before .before .before .before .before .before .before .before .before .before .before in
+    let most = room (c7) in
+    let small = c20 .pre .0 .small in
     let taken = c .if2 .taken in
     omega arith
 
 same-length-2 : tie.Need-same-length-2 Inv-loop μ-loop
 same-length-2 c =
-    let s = c .before .before .before .before .before .before .before .before .before .before .before .before .before .before .before .before .before .before .before .before in
-    c .before .before .before .before .before .column .kept .1 .1 .1 .1 .0 ∙ c .before .before .before .before .before .before .before .before .loop .inv .2 .ready .room ∙ sym (s .pre .0 .room)
+    let c5 = c .before .before .before .before .before in
+    let c8 = c5 .before .before .before in
+    let s = c8 .before .before .before .before .before .before .before .before .before .before .before .before in
+    c5 .column .kept .1 .1 .1 .1 .0 ∙ c8 .loop .inv .2 .ready .room ∙ sym (s .pre .0 .room)
 
 returns-2 : tie.Need-returns-2 Inv-loop μ-loop
 returns-2 c =
-    let most = room (c .before .before .before .before .before .before .before) in
-    let own = label-length (c .before .before .before .before .before .before .before .before .before .before .before .before .before .before .before .before .before .before .before .before .args .parents .now) in
-    agree-parts (c .before .before .before .before .before .before .before .before .loop .inv .2 .own) (c .before .agree2 .ensures) (c .before .before .before .before .before .column .ensures) (omega arith) (c .if2 .taken)
+    let c5 = c .before .before .before .before .before in
+    let c7 = c5 .before .before in
+    let c8 = c7 .before in
+    let c20 = c8 .before .before .before .before .before .before .before .before .before .before .before .before in
+    let most = room (c7) in
+    let own = label-length (c20 .args .parents .now) in
+    agree-parts (c8 .loop .inv .2 .own) (c .before .agree2 .ensures) (c5 .column .ensures) (omega arith) (c .if2 .taken)
 
 add-k : tie.Need-add-k Inv-loop μ-loop
 add-k c = search needs
@@ -118,10 +136,14 @@ loop-less c =
 
 loop-again : tie.Need-loop-again Inv-loop μ-loop
 loop-again c =
-    let l = c .before .before .before .before .before .before .before .before .loop .inv in
-    let column = c .before .before .before .before .before .column in
-    let taken = c .before .before .before .before .before .before .before .loop-test .taken in
-    (omega arith, omega arith, rw add-one (columns-more (ready-kept (l .2 .ready) (column .kept .1 .1 .1 .1 .0)) (l .2 .cells) (agree-all (l .2 .own) (c .before .agree2 .ensures) (column .ensures) (c .if2 .left))))
+    let c5 = c .before .before .before .before .before in
+    let c7 = c5 .before .before in
+    let c8 = c7 .before in
+    let l = c8 .loop .inv in
+    let column = c5 .column in
+    let taken = c7 .loop-test .taken in
+    let own = agree-all (l .2 .own) (c .before .agree2 .ensures) (column .ensures) (c .if2 .left) in
+    (omega arith, omega arith, rw add-one (columns-more (ready-kept (l .2 .ready) (column .kept .1 .1 .1 .1 .0)) (l .2 .cells) own))
 
 mul-result-2 : tie.Need-mul-result-2 Inv-loop μ-loop
 mul-result-2 c = search needs

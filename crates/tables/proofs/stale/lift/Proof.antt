@@ -77,23 +77,34 @@ add-result c =
 
 same-length : tie.Need-same-length Inv-loop μ-loop
 same-length c =
-    let s = c .before .before .before .before .before .before .before .before .before .before .before .before .before .before in
-    c .before .before .before .before .before .next-lift .kept .1 .1 .1 .0 ∙ c .before .before .before .before .before .before .before .before .loop .inv .0 .room ∙ sym (s .pre .0 .room)
+    let c5 = c .before .before .before .before .before in
+    let c8 = c5 .before .before .before in
+    let s = c8 .before .before .before .before .before .before in
+    c5 .next-lift .kept .1 .1 .1 .0 ∙ c8 .loop .inv .0 .room ∙ sym (s .pre .0 .room)
 
 returns-2 : tie.Need-returns-2 Inv-loop μ-loop
 returns-2 c =
-    let l = c .before .before .before .before .before .before .before .before .loop .inv in
-    agree-parts (l .1 .same) (c .before .agree2 .ensures) (c .before .before .before .before .before .next-lift .ensures) (rowwise-next-room (l .1) (c .before .before .before .before .before .before .before .loop-test .taken)) (c .if2 .taken)
+    let c5 = c .before .before .before .before .before in
+    let c7 = c5 .before .before in
+    let c8 = c7 .before in
+    let l = c8 .loop .inv in
+    agree-parts (l .1 .same) (c .before .agree2 .ensures) (c5 .next-lift .ensures) (rowwise-next-room (l .1) (c7 .loop-test .taken)) (c .if2 .taken)
 
 loop-less : tie.Need-loop-less Inv-loop μ-loop
 loop-less c =
-    rowwise-less (c .before .before .before .before .before .before .before .before .loop .inv .1) (c .before .before .before .before .before .before .before .loop-test .taken)
+    let c7 = c .before .before .before .before .before .before .before in
+    let c8 = c7 .before in
+    rowwise-less (c8 .loop .inv .1) (c7 .loop-test .taken)
 
 loop-again : tie.Need-loop-again Inv-loop μ-loop
 loop-again c =
-    let l = c .before .before .before .before .before .before .before .before .loop .inv in
-    let next = c .before .before .before .before .before .next-lift in
-    (ready-kept (l .0) (next .kept .1 .1 .1 .0), rowwise-next (l .1) (c .before .before .before .before .before .before .before .loop-test .taken) refl (agree-all (l .1 .same) (c .before .agree2 .ensures) (next .ensures) (c .if2 .left)))
+    let c5 = c .before .before .before .before .before in
+    let c7 = c5 .before .before in
+    let c8 = c7 .before in
+    let l = c8 .loop .inv in
+    let next = c5 .next-lift in
+    let same = agree-all (l .1 .same) (c .before .agree2 .ensures) (next .ensures) (c .if2 .left) in
+    (ready-kept (l .0) (next .kept .1 .1 .1 .0), rowwise-next (l .1) (c7 .loop-test .taken) refl same)
 
 add-result-2 : tie.Need-add-result-2 Inv-loop μ-loop
 add-result-2 c =

@@ -47,15 +47,18 @@ same-length c = search needs
 
 returns : tie.Need-returns Inv-loop μ-loop
 returns c =
-    let s = c .before .before .before .before .before .before .before .before .before .before .before in
-    agree-parts (s .pre .2) (c .before .agree .ensures) (c .before .before .before .before .before .first-row .ensures .1) (tour-room (s .pre .0 .ready)) (c .if1 .taken)
+    let c5 = c .before .before .before .before .before in
+    let s = c5 .before .before .before .before .before .before in
+    agree-parts (s .pre .2) (c .before .agree .ensures) (c5 .first-row .ensures .1) (tour-room (s .pre .0 .ready)) (c .if1 .taken)
 
 loop-holds : tie.Need-loop-holds Inv-loop μ-loop
 loop-holds c =
-    let s = c .before .before .before .before .before .before .before .before .before .before .before in
+    let c5 = c .before .before .before .before .before in
+    let s = c5 .before .before .before .before .before .before in
     let r = s .pre .0 .ready in
-    let first = c .before .before .before .before .before .first-row in
-    (ready-kept r (first .kept .1 .1 .1 .0), first .ensures .0, sparse-rows-start r (s .pre .1) (agree-all (s .pre .2) (c .before .agree .ensures) (first .ensures .1) (c .if1 .left)))
+    let first = c5 .first-row in
+    let same = agree-all (s .pre .2) (c .before .agree .ensures) (first .ensures .1) (c .if1 .left) in
+    (ready-kept r (first .kept .1 .1 .1 .0), first .ensures .0, sparse-rows-start r (s .pre .1) same)
 
 mul-loop : tie.Need-mul-loop Inv-loop μ-loop
 mul-loop c =
@@ -93,32 +96,46 @@ agree-requires-2 c κs =
 
 add-result-2 : tie.Need-add-result-2 Inv-loop μ-loop
 add-result-2 c =
-    let l = c .before .before .before .before .before .before .before .before .loop .inv in
-    let room = rowwise-next-room (l .2) (c .before .before .before .before .before .before .before .loop-test .taken) in
+    let c7 = c .before .before .before .before .before .before .before in
+    let c8 = c7 .before in
+    let c20 = c8 .before .before .before .before .before .before .before .before .before .before .before .before in
+    let l = c8 .loop .inv in
+    let room = rowwise-next-room (l .2) (c7 .loop-test .taken) in
     let cells = l .2 .cells in
-    let fits = c .before .before .before .before .before .before .before .before .before .before .before .before .before .before .before .before .before .before .before .before .good .1 .1 .0 .0 in
+    let fits = c20 .good .1 .1 .0 .0 in
     omega arith
 
 same-length-2 : tie.Need-same-length-2 Inv-loop μ-loop
 same-length-2 c =
-    let s = c .before .before .before .before .before .before .before .before .before .before .before .before .before .before .before .before .before .before .before .before in
-    c .before .before .before .before .before .next-row .kept .1 .1 .1 .1 .0 ∙ c .before .before .before .before .before .before .before .before .loop .inv .0 .room ∙ sym (s .pre .0 .ready .room)
+    let c5 = c .before .before .before .before .before in
+    let c8 = c5 .before .before .before in
+    let s = c8 .before .before .before .before .before .before .before .before .before .before .before .before in
+    c5 .next-row .kept .1 .1 .1 .1 .0 ∙ c8 .loop .inv .0 .room ∙ sym (s .pre .0 .ready .room)
 
 returns-2 : tie.Need-returns-2 Inv-loop μ-loop
 returns-2 c =
-    let l = c .before .before .before .before .before .before .before .before .loop .inv in
+    let c5 = c .before .before .before .before .before in
+    let c7 = c5 .before .before in
+    let c8 = c7 .before in
+    let l = c8 .loop .inv in
     let some = l .2 .some in
-    agree-parts (l .2 .same) (c .before .agree2 .ensures) (c .before .before .before .before .before .next-row .ensures .1) (rowwise-next-room (l .2) (c .before .before .before .before .before .before .before .loop-test .taken)) (omega arith)
+    agree-parts (l .2 .same) (c .before .agree2 .ensures) (c5 .next-row .ensures .1) (rowwise-next-room (l .2) (c7 .loop-test .taken)) (omega arith)
 
 loop-less : tie.Need-loop-less Inv-loop μ-loop
 loop-less c =
-    rowwise-less (c .before .before .before .before .before .before .before .before .loop .inv .2) (c .before .before .before .before .before .before .before .loop-test .taken)
+    let c7 = c .before .before .before .before .before .before .before in
+    let c8 = c7 .before in
+    rowwise-less (c8 .loop .inv .2) (c7 .loop-test .taken)
 
 loop-again : tie.Need-loop-again Inv-loop μ-loop
 loop-again c =
-    let l = c .before .before .before .before .before .before .before .before .loop .inv in
-    let next = c .before .before .before .before .before .next-row in
-    (ready-kept (l .0) (next .kept .1 .1 .1 .1 .0), next .ensures .0, rowwise-next (l .2) (c .before .before .before .before .before .before .before .loop-test .taken) refl (agree-all (l .2 .same) (c .before .agree2 .ensures) (next .ensures .1) (c .if2 .left)))
+    let c5 = c .before .before .before .before .before in
+    let c7 = c5 .before .before in
+    let c8 = c7 .before in
+    let l = c8 .loop .inv in
+    let next = c5 .next-row in
+    let same = agree-all (l .2 .same) (c .before .agree2 .ensures) (next .ensures .1) (c .if2 .left) in
+    (ready-kept (l .0) (next .kept .1 .1 .1 .1 .0), next .ensures .0, rowwise-next (l .2) (c7 .loop-test .taken) refl same)
 
 add-result-3 : tie.Need-add-result-3 Inv-loop μ-loop
 add-result-3 c =

@@ -16,7 +16,9 @@ same-length c = search needs
 
 returns : tie.Need-returns
 returns c =
-    stale-label (c .before .before .before .before .before .before .before .before .before .before .pre) (c .before .before .before .label .ensures) (c .if1 .taken)
+    let c3 = c .before .before .before in
+    let c10 = c3 .before .before .before .before .before .before .before in
+    stale-label (c10 .pre) (c3 .label .ensures) (c .if1 .taken)
 
 tour-requires : tie.Need-tour-requires
 tour-requires c κs =
@@ -32,12 +34,19 @@ same-length-2 c = search needs
 
 returns-2 : tie.Need-returns-2
 returns-2 c =
-    stale-tour (c .before .before .before .before .before .before .before .before .before .before .before .before .before .before .before .pre) (c .before .before .before .before .before .before .before .before .label .ensures) (c .before .before .before .before .before .if1 .left) (c .before .before .before .tour .ensures) (c .if2 .taken)
+    let c3 = c .before .before .before in
+    let c5 = c3 .before .before in
+    let c8 = c5 .before .before .before in
+    let c15 = c8 .before .before .before .before .before .before .before in
+    stale-tour (c15 .pre) (c8 .label .ensures) (c5 .if1 .left) (c3 .tour .ensures) (c .if2 .taken)
 
 lift-requires : tie.Need-lift-requires
 lift-requires c κs =
-    let f = c .before .before .before .before .before .before .before .before .before .before .before .before .before .before .before .before .pre in
-    (ready-kept (f .ready) (c .before .before .before .before .tour .kept .1 .1 .1 .0 ∙ c .before .before .before .before .before .before .before .before .before .label .kept .1 .1 .0), f .lift-cells)
+    let c4 = c .before .before .before .before in
+    let c9 = c4 .before .before .before .before .before in
+    let c16 = c9 .before .before .before .before .before .before .before in
+    let f = c16 .pre in
+    (ready-kept (f .ready) (c4 .tour .kept .1 .1 .1 .0 ∙ c9 .label .kept .1 .1 .0), f .lift-cells)
 
 add-t23 : tie.Need-add-t23
 add-t23 c = search needs
@@ -50,14 +59,26 @@ same-length-3 c = search needs
 
 returns-3 : tie.Need-returns-3
 returns-3 c =
-    stale-lift (c .before .before .before .before .before .before .before .before .before .before .before .before .before .before .before .before .before .before .before .before .pre) (c .before .before .before .before .before .before .before .before .before .before .before .before .before .label .ensures) (c .before .before .before .before .before .before .before .before .before .before .if1 .left) (c .before .before .before .before .before .before .before .before .tour .ensures) (c .before .before .before .before .before .if2 .left) (c .before .before .before .lift .ensures) (c .if3 .taken)
+    let c3 = c .before .before .before in
+    let c5 = c3 .before .before in
+    let c8 = c5 .before .before .before in
+    let c10 = c8 .before .before in
+    let c13 = c10 .before .before .before in
+    let c20 = c13 .before .before .before .before .before .before .before in
+    stale-lift (c20 .pre) (c13 .label .ensures) (c10 .if1 .left) (c8 .tour .ensures) (c5 .if2 .left) (c3 .lift .ensures) (c .if3 .taken)
 
 same-length-4 : tie.Need-same-length-4
 same-length-4 c = search needs
 
 returns-4 : tie.Need-returns-4
 returns-4 c =
-    stale-none (c .before .before .before .before .before .before .before .before .before .before .before .before .before .before .before .before .before .before .before .before .pre) (c .before .before .before .before .before .before .before .before .before .before .before .before .before .label .ensures) (c .before .before .before .before .before .before .before .before .before .before .if1 .left) (c .before .before .before .before .before .before .before .before .tour .ensures) (c .before .before .before .before .before .if2 .left) (c .before .before .before .lift .ensures) (c .if3 .left)
+    let c3 = c .before .before .before in
+    let c5 = c3 .before .before in
+    let c8 = c5 .before .before .before in
+    let c10 = c8 .before .before in
+    let c13 = c10 .before .before .before in
+    let c20 = c13 .before .before .before .before .before .before .before in
+    stale-none (c20 .pre) (c13 .label .ensures) (c10 .if1 .left) (c8 .tour .ensures) (c5 .if2 .left) (c3 .lift .ensures) (c .if3 .left)
 
 pub tables-spec : {M : Type 1} → statement M
 tables-spec =

@@ -40,7 +40,9 @@ returns c =
 
 first-visits-requires : tie.Need-first-visits-requires
 first-visits-requires c κs =
-    columns-kept (c .before .before .before .before .before .before .before .before .before .before .before .before .pre .0) (c .before .before .before .before .before .before .visits .kept .1 .1 .0)
+    let c6 = c .before .before .before .before .before .before in
+    let c12 = c6 .before .before .before .before .before .before in
+    columns-kept (c12 .pre .0) (c6 .visits .kept .1 .1 .0)
 
 agree-requires-2 : tie.Need-agree-requires-2
 agree-requires-2 c κs = search needs
@@ -53,13 +55,20 @@ same-length-2 c = search needs
 
 returns-2 : tie.Need-returns-2
 returns-2 c =
-    let room = tour-room (c .before .before .before .before .before .before .before .before .before .before .before .before .before .before .before .before .before .before .pre .0 .ready) in
-    agree-parts (toured (c .before .before .before .before .before .before .before)) (c .before .agree2 .ensures) (c .before .before .before .before .before .first-visits .ensures) (omega arith) (c .if2 .taken)
+    let c5 = c .before .before .before .before .before in
+    let c7 = c5 .before .before in
+    let c18 = c7 .before .before .before .before .before .before .before .before .before .before .before in
+    let room = tour-room (c18 .pre .0 .ready) in
+    agree-parts (toured (c7)) (c .before .agree2 .ensures) (c5 .first-visits .ensures) (omega arith) (c .if2 .taken)
 
 sparse-requires : tie.Need-sparse-requires
 sparse-requires c κs =
-    let s = c .before .before .before .before .before .before .before .before .before .before .before .before .before .before .before .before .before .before .before in
-    (columns-kept (s .pre .0) (c .before .before .before .before .before .before .first-visits .kept .1 .1 .0 ∙ c .before .before .before .before .before .before .before .before .before .before .before .before .before .visits .kept .1 .1 .0), s .pre .1, agree-all (toured (c .before .before .before .before .before .before .before .before)) (c .before .before .agree2 .ensures) (c .before .before .before .before .before .before .first-visits .ensures) (c .before .if2 .left))
+    let c6 = c .before .before .before .before .before .before in
+    let c8 = c6 .before .before in
+    let c13 = c8 .before .before .before .before .before in
+    let s = c13 .before .before .before .before .before .before in
+    let same = agree-all (toured c8) (c .before .before .agree2 .ensures) (c6 .first-visits .ensures) (c .before .if2 .left) in
+    (columns-kept (s .pre .0) (c6 .first-visits .kept .1 .1 .0 ∙ c13 .visits .kept .1 .1 .0), s .pre .1, same)
 
 same-length-3 : tie.Need-same-length-3
 same-length-3 c = search needs

@@ -42,8 +42,9 @@ cast-u c = omega (arith, c .shared-slice-known .given (c .before .before .before
 
 loop-less : tie.Need-loop-less Inv-loop μ-loop
 loop-less c =
-    let s = c .before .before .before .before in
-    let l = c .before .before .before .loop in
+    let c3 = c .before .before .before in
+    let s = c3 .before in
+    let l = c3 .loop in
     rw (s .pre .is) (blanks-less (s .args .parents .now) (l .work) (l .u) (s .args .v) (l .inv .1 .1 .part) (l .inv .1 .1 .room) (c .before .if1 .taken))
 
 loop-again : tie.Need-loop-again Inv-loop μ-loop
