@@ -12,9 +12,9 @@ use lib.Dec.{lit<}
 use lib.ListN.{length, getD, set, length-set}
 use lib.Seq.{getD-set-other}
 use Rattle.tree.specs.Tree.{parent, Ancestor, isRoot, Tree}
-use Rattle.tree.specs.Preorder.{isChild, preorderNumber, size}
+use Rattle.tree.specs.Preorder.{isChild, preorderNumber, size, childSum}
 use Rattle.tree.specs.Labels.{labelTable}
-use Rattle.tree.specs.Sections.{childSum, Same}
+use Rattle.tree.specs.Sections.{Same}
 use Rattle.tree.proofs.Scans.{by-equal, by-order, by-test, least-from}
 use Rattle.tree.proofs.Roots.{root-is}
 use Rattle.tree.proofs.Trees.{root-found}

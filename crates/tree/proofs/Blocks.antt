@@ -10,8 +10,7 @@ use mathlib.Core.List.{List, [], _∷_, _++_, append-nil, append-assoc}
 use lib.ListN.{length, getD, length-append, List·getD-append}
 use lib.Seq.{getD-append-add}
 use Rattle.tree.specs.Tree.{parent, rootOf, level, Tree}
-use Rattle.tree.specs.Preorder.{isChild, eachChild}
-use Rattle.tree.specs.Sections.{childSum}
+use Rattle.tree.specs.Preorder.{isChild, eachChild, childSum}
 use Rattle.tree.proofs.Scans.{by-test, by-equal}
 use Rattle.tree.proofs.Trees.{root-found, level-root, level-below, level-parent, from-root}
 use Rattle.tree.proofs.PreorderList.{Child, child-test, child-deeper, each-child, each-other}

@@ -7,8 +7,7 @@ use mathlib.Core.Path.{_≡_, refl, sym, ap, _∙_, subst}
 use mathlib.Core.List.{List}
 use lib.ListN.{length, getD}
 use Rattle.tree.specs.Tree.{parent, climb, Ancestor, level, Tree}
-use Rattle.tree.specs.Preorder.{preorderIn, preorder, preorderNumber, size}
-use Rattle.tree.specs.Sections.{childSum}
+use Rattle.tree.specs.Preorder.{preorderIn, preorder, preorderNumber, size, childSum}
 use Rattle.tree.proofs.Scans.{by-equal}
 use Rattle.tree.proofs.Orders.{member-at}
 use Rattle.tree.proofs.Trees.{level-below}

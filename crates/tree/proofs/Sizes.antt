@@ -10,8 +10,7 @@ use mathlib.Core.List.{List, [], _∷_, append-nil}
 use lib.ListN.{length, getD}
 use Rattle.tree.specs.Scan.{position}
 use Rattle.tree.specs.Tree.{parent, isAncestor, rootOf, level, Tree}
-use Rattle.tree.specs.Preorder.{eachChild, preorderIn, preorder, preorderNumber, size}
-use Rattle.tree.specs.Sections.{childSum}
+use Rattle.tree.specs.Preorder.{eachChild, preorderIn, preorder, preorderNumber, size, childSum}
 use Rattle.tree.proofs.Scans.{position-here, count-constant}
 use Rattle.tree.proofs.Orders.{ordered-count}
 use Rattle.tree.proofs.Climbs.{ancestor-test, test-ancestor}

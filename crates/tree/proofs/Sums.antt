@@ -7,8 +7,7 @@ use mathlib.Core.Path.{_≡_, refl, sym, ap, _∙_, subst}
 use mathlib.Core.Bool.{true, false}
 use mathlib.Core.List.{List, []}
 use lib.ListN.{length, length-append}
-use Rattle.tree.specs.Preorder.{isChild, eachChild}
-use Rattle.tree.specs.Sections.{childSum}
+use Rattle.tree.specs.Preorder.{isChild, eachChild, childSum}
 use Rattle.tree.proofs.Scans.{by-test, by-equal, by-order}
 use Rattle.tree.proofs.PreorderList.{Child, child-test, test-child}
 

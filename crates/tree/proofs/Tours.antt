@@ -8,9 +8,8 @@ use mathlib.Core.Logic.{_≢_}
 use mathlib.Core.List.{List, [], _∷_, _++_}
 use lib.ListN.{length, getD, length-append}
 use Rattle.tree.specs.Tree.{parent, rootOf, level, Tree}
-use Rattle.tree.specs.Preorder.{eachChild, preorderNumber, size, tourIn, tour, firstVisit}
+use Rattle.tree.specs.Preorder.{eachChild, preorderNumber, size, tourIn, tour, firstVisit, childSum}
 use Rattle.tree.specs.Buffers.{visits}
-use Rattle.tree.specs.Sections.{childSum}
 use Rattle.tree.proofs.Scans.{by-equal, position-here, position-at-most}
 use Rattle.tree.proofs.Trees.{root-found, level-root, level-below, level-parent, from-root}
 use Rattle.tree.proofs.PreorderList.{child-deeper}

@@ -1,6 +1,6 @@
 -- Preorder (document 01, "The sheet and its words"): by its three sentences, and as the list that meets them. With it the numbers
 -- that the tables take from the order: PREORDER, SIZE, and the tour E with its first positions R. Assumes nothing.
-use Prim.Native.Nat.{ℕ, zero, suc, _<_}
+use Prim.Native.Nat.{ℕ, zero, suc, _+_, _<_}
 use mathlib.Core.Path.{_≡_}
 use mathlib.Core.Logic.{_≢_}
 use mathlib.Core.Bool.{Bool, cond, not, _&&_}
@@ -35,6 +35,11 @@ isChild s v c = eqb (parent s c) v && not (eqb c v)
 unfoldable pub eachChild : List ℕ → ℕ → (ℕ → List ℕ) → ℕ → List ℕ
 eachChild s v visit zero = []
 eachChild s v visit (suc i) = let here = visit i in eachChild s v visit i ++ cond (isChild s v i) here []
+
+-- the sum of f over the children of v below i
+unfoldable pub childSum : List ℕ → ℕ → (ℕ → ℕ) → ℕ → ℕ
+childSum s v f zero = 0
+childSum s v f (suc i) = childSum s v f i + cond (isChild s v i) (f i) 0
 
 -- v, and then its children with all that they carry, through at most f levels
 unfoldable pub preorderIn : List ℕ → ℕ → ℕ → List ℕ
