@@ -62,15 +62,15 @@ module _ {t : Lent} {before label′ tour′ lift′ after : List ℕ} {r : Outc
   pub build-fills : r ≡ Accepted → (label′ ≡ labelTable (t .parents)) × (tour′ ≡ tourTable (t .parents)) × (lift′ ≡ liftTable (t .parents))
   build-fills e =
       let v = buildVerdict t before in
-      let yes-all : v ≡ accepted = sym (g .outcome) ∙ ap verdictOf e in
-      (g .label ∙ sym (filled-own v _ _ yes-all), g .tour ∙ sym (filled-own v _ _ yes-all), g .lift ∙ sym (filled-own v _ _ yes-all))
+      let accepting : v ≡ accepted = sym (g .outcome) ∙ ap verdictOf e in
+      (g .label ∙ sym (filled-own v _ _ accepting), g .tour ∙ sym (filled-own v _ _ accepting), g .lift ∙ sym (filled-own v _ _ accepting))
 
   -- "A refusal .. changes no table"
   pub build-keeps : {number place : ℕ} → verdictOf r ≡ refused number place → (label′ ≡ t .label) × (tour′ ≡ t .tour) × (lift′ ≡ t .lift)
   build-keeps e =
       let v = buildVerdict t before in
-      let no-one : v ≡ refused _ _ = sym (g .outcome) ∙ e in
-      (g .label ∙ sym (filled-kept v _ _ _ _ no-one), g .tour ∙ sym (filled-kept v _ _ _ _ no-one), g .lift ∙ sym (filled-kept v _ _ _ _ no-one))
+      let refusing : v ≡ refused _ _ = sym (g .outcome) ∙ e in
+      (g .label ∙ sym (filled-kept v _ _ _ _ refusing), g .tour ∙ sym (filled-kept v _ _ _ _ refusing), g .lift ∙ sym (filled-kept v _ _ _ _ refusing))
 
 -- ---- comparing
 
@@ -86,12 +86,12 @@ module _ {t : Lent} {before after : List ℕ} {r : Outcome} (g : LentGives t 0 b
       ∙ accepted-on (sheetTests (t .parents) (unfitOf t before 0)) (staleTable t ∷ [])
       (ap (λ (buffer : ℕ). verdict (sheetTests (t .parents) buffer)) fits ∙ a)
 
-  -- no cell differs
-  unread : length (mine t) ≤ firstDifference (endToEnd t) (mine t) → verdictOf r ≡ accepted
-  unread h = decided ∙ stale-accepted t h
+  -- no cell differs, or one does first
+  fresh : length (mine t) ≤ firstDifference (endToEnd t) (mine t) → verdictOf r ≡ accepted
+  fresh h = decided ∙ stale-accepted t h
 
-  named : firstDifference (endToEnd t) (mine t) < length (mine t) → verdictOf r ≡ refused 8 (firstDifference (endToEnd t) (mine t))
-  named h = decided ∙ stale-refused t h
+  stale-at : firstDifference (endToEnd t) (mine t) < length (mine t) → verdictOf r ≡ refused 8 (firstDifference (endToEnd t) (mine t))
+  stale-at h = decided ∙ stale-refused t h
 
   never : {place : ℕ} → verdictOf r ≡ accepted → verdictOf r ≡ refused 8 place → ⊥
   never {place} e f = let both : accepted ≡ refused 8 place = sym e ∙ f in let z : _≡_ {A = ℕ} 0 1 = cc in omega arith
@@ -100,27 +100,29 @@ module _ {t : Lent} {before after : List ℕ} {r : Outcome} (g : LentGives t 0 b
   pub stale-exactly : ((place : ℕ) × (verdictOf r ≡ refused 8 place)) ↔ ((i : ℕ) × (i < length (mine t)) × (getD (endToEnd t) i 0 ≢ getD (mine t) i 0))
   stale-exactly =
       let d = firstDifference (endToEnd t) (mine t) in (
-        λ stale. by-order (length (mine t)) d (λ h. absurd (never (unread h) (stale .1))) (λ h. (d, h, difference-here (endToEnd t) (mine t) h)),
+        λ stale. by-order (length (mine t)) d (λ h. absurd (never (fresh h) (stale .1))) (λ h. (d, h, difference-here (endToEnd t) (mine t) h)),
         λ cell. by-order (length (mine t)) d
             (λ h. absurd (cell .2 (rw zero-add at (difference-all (endToEnd t) (mine t) h .cell (cell .0) (cell .1)))))
-            (λ h. (d, named h)),
+            (λ h. (d, stale-at h)),
       )
 
-  -- "first such cell from 0": no cell before it differs
-  pub stale-first : (place : ℕ) → verdictOf r ≡ refused 8 place → (i : ℕ) → i < place → getD (endToEnd t) i 0 ≡ getD (mine t) i 0
-  stale-first place e i h =
+  -- "first such cell from 0": the cell named differs, and none before it
+  pub stale-first : (place : ℕ) → verdictOf r ≡ refused 8 place
+      → (place < length (mine t)) × (getD (endToEnd t) place 0 ≢ getD (mine t) place 0) × ((i : ℕ) → i < place → getD (endToEnd t) i 0 ≡ getD (mine t) i 0)
+  stale-first place e =
       let d = firstDifference (endToEnd t) (mine t) in
-      by-order (length (mine t)) d (λ l. absurd (never (unread l) e))
+      by-order (length (mine t)) d (λ l. absurd (never (fresh l) e))
       (λ l.
-      let both : refused 8 d ≡ refused 8 place = sym (named l) ∙ e in
+      let both : refused 8 d ≡ refused 8 place = sym (stale-at l) ∙ e in
       let same : d ≡ place = cc in
-      rw zero-add at (difference-same (endToEnd t) (mine t) .cell i (omega arith)))
+      let here = difference-here (endToEnd t) (mine t) l in
+      (omega arith, rw same at here, λ i h. rw zero-add at (difference-same (endToEnd t) (mine t) .cell i (omega arith))))
 
   -- else they are accepted
   pub compare-accepts : (r ≡ Accepted) ↔ ((i : ℕ) → i < length (mine t) → getD (endToEnd t) i 0 ≡ getD (mine t) i 0)
   compare-accepts =
       let d = firstDifference (endToEnd t) (mine t) in (
         λ e i h. by-order (length (mine t)) d (λ l. rw zero-add at (difference-all (endToEnd t) (mine t) l .cell i h))
-            (λ l. absurd (never (ap verdictOf e) (named l))),
-        λ same. by-order (length (mine t)) d (λ l. accepted-case r (unread l)) (λ l. absurd (difference-here (endToEnd t) (mine t) l (same d l))),
+            (λ l. absurd (never (ap verdictOf e) (stale-at l))),
+        λ same. by-order (length (mine t)) d (λ l. accepted-case r (fresh l)) (λ l. absurd (difference-here (endToEnd t) (mine t) l (same d l))),
       )

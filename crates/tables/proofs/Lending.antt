@@ -22,13 +22,13 @@ use Rattle.tables.specs.Lend.{unfitOf, buildVerdict, BuildGives, lentVer
 use Rattle.tables.specs.Sections.{Fits, Built}
 
 -- no buffer is named: each has its exact length
-record Exact (t : Lent) (work : List ℕ) (further : ℕ) : Type 0 where
+record Exact (t : Lent) (work : List ℕ) : Type 0 where
   label-cells : length (t .label) ≡ labelCells (length (t .parents))
   tour-cells : length (t .tour) ≡ tourCells (length (t .parents))
   lift-cells : length (t .lift) ≡ liftCells (length (t .parents))
   work-cells : length work ≡ workCells (length (t .parents))
 
-exact : (t : Lent) (work : List ℕ) (further : ℕ) → unfitOf t work further ≡ 0 → Exact t work further
+exact : (t : Lent) (work : List ℕ) (further : ℕ) → unfitOf t work further ≡ 0 → Exact t work
 exact t work further e =
     let n = length (t .parents) in
     let last = workFit n (length work) ∷ furtherFit further ∷ [] in
@@ -67,7 +67,7 @@ found-fits t work after further unfit found same e =
 
 module _ (t : Lent) (work : List ℕ) (further unfit : ℕ) (found : Found t work further unfit) {r : Outcome} {after : List ℕ}
     (tested : Tested (t .parents) unfit work r after) where
-  -- the verdict does not tell what was found from what is there
+  -- what was found gives the verdict of what is there
   there : verdictOf r ≡ verdict (sheetTests (t .parents) (unfitOf t work further))
   there = tested .outcome ∙ same-verdict (t .parents) unfit (unfitOf t work further) found
 

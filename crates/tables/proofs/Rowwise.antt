@@ -40,10 +40,15 @@ module _ {own table : List ℕ} {base width m at half : ℕ} (r : Rowwise own ta
   pub rowwise-room : at + width ≤ length table
   rowwise-room = let e = r .last in let f = r .cells in let fits = row-fits (r .some) (r .row) in omega arith
 
-  -- the next row is made, and is the table's too
+  -- the next row
   pub rowwise-next-room : 2 * half ≤ m → at + width + width ≤ length own
   rowwise-next-room h = let e = r .last in let fits = row-fits (r .some) (row-next (r .some) (r .row) h) in omega arith
 
+  -- .. for which there is room in the table, and in work of k cells
+  pub rowwise-next-fits : {k : ℕ} → 2 * half ≤ m → width ≤ k → (at + width + width ≤ length table) × (0 + width ≤ k)
+  rowwise-next-fits h b = let e = r .cells in let room = rowwise-next-room h in (omega arith, omega arith)
+
+  -- .. which is made, and is the table's too
   pub rowwise-next : {table′ : List ℕ} → 2 * half ≤ m → length table′ ≡ length table → Same table′ 0 own 0 (at + width + width)
       → Rowwise own table′ base width m (at + width) (2 * half)
   rowwise-next h kept same =

@@ -9,7 +9,7 @@ use Rattle.tree.proofs.Cells.{lift-length}
 use Rattle.tree.proofs.Columns.{ready-kept}
 use Rattle.tree.proofs.Differences.{same-none, same-all}
 use Rattle.tables.proofs.Sections.{copied-upto}
-use Rattle.tables.proofs.Rowwise.{rowwise-small, rowwise-less, rowwise-room, rowwise-next-room, rowwise-next, rowwise-end}
+use Rattle.tables.proofs.Rowwise.{rowwise-small, rowwise-less, rowwise-room, rowwise-next-fits, rowwise-next, rowwise-end}
 use Rattle.tables.proofs.TableRows.{LiftRows, lift-room, lift-first, lift-rows-start, lift-row}
 use Rattle.tables.proofs.fill.lift.Statement.{statement}
 use Rattle.tables.proofs.fill.lift.Tie as tie
@@ -56,12 +56,12 @@ mul-power c =
 
 copy-requires-2 : tie.Need-copy-requires-2 Inv-loop μ-loop
 copy-requires-2 c κs =
-    let l = c .before .before .before .before .before .before .before .before .loop .inv in
-    let next = rowwise-next-room (l .1) (c .before .before .before .before .before .before .before .loop-test .taken) in
-    let cells = l .1 .cells in
-    let work = c .before .before .before .before .next-lift .kept .1 .1 .1 .0 in
+    let c4 = c .before .before .before .before in
+    let c7 = c4 .before .before .before in
+    let l = c7 .before .loop .inv in
+    let kept = c4 .next-lift .kept .1 .1 .1 .0 in
     let room = l .0 .room in
-    (omega arith, omega arith)
+    rowwise-next-fits (l .1) (c7 .loop-test .taken) (omega arith)
 
 loop-less : tie.Need-loop-less Inv-loop μ-loop
 loop-less c =

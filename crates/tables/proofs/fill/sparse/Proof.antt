@@ -11,7 +11,7 @@ use Rattle.tree.proofs.Columns.{ready-kept}
 use Rattle.tree.proofs.Differences.{same-all}
 use Rattle.rows.specs.Rows.{Levels}
 use Rattle.tables.proofs.Sections.{copied-upto}
-use Rattle.tables.proofs.Rowwise.{rowwise-small, rowwise-less, rowwise-room, rowwise-next-room, rowwise-next, rowwise-end}
+use Rattle.tables.proofs.Rowwise.{rowwise-small, rowwise-less, rowwise-room, rowwise-next-fits, rowwise-next, rowwise-end}
 use Rattle.tables.proofs.TableRows.{some-node, SparseRows, own-tour-length, tour-room, sparse-rows-start, sparse-row}
 use Rattle.tables.proofs.fill.sparse.Statement.{statement}
 use Rattle.tables.proofs.fill.sparse.Tie as tie
@@ -83,12 +83,12 @@ mul-half c =
 
 copy-requires-2 : tie.Need-copy-requires-2 Inv-loop μ-loop
 copy-requires-2 c κs =
-    let l = c .before .before .before .before .before .before .before .before .loop .inv in
-    let next = rowwise-next-room (l .2) (c .before .before .before .before .before .before .before .loop-test .taken) in
-    let cells = l .2 .cells in
-    let work = c .before .before .before .before .next-row .kept .1 .1 .1 .1 .0 in
+    let c4 = c .before .before .before .before in
+    let c7 = c4 .before .before .before in
+    let l = c7 .before .loop .inv in
+    let kept = c4 .next-row .kept .1 .1 .1 .1 .0 in
     let room = l .0 .room in
-    (omega arith, omega arith)
+    rowwise-next-fits (l .2) (c7 .loop-test .taken) (omega arith)
 
 loop-less : tie.Need-loop-less Inv-loop μ-loop
 loop-less c =

@@ -9,7 +9,7 @@ use lib.ListN.{length}
 use Rattle.tree.specs.Ready.{Ready}
 use Rattle.tree.proofs.Differences.{same-none}
 use Rattle.tree.proofs.Columns.{ready-kept}
-use Rattle.tables.proofs.Rowwise.{rowwise-small, rowwise-less, rowwise-room, rowwise-next-room, rowwise-next, rowwise-none}
+use Rattle.tables.proofs.Rowwise.{rowwise-small, rowwise-less, rowwise-room, rowwise-next-room, rowwise-next-fits, rowwise-next, rowwise-none}
 use Rattle.tables.proofs.TableRows.{LiftRows, lift-room, lift-first, lift-rows-start, lift-row}
 use Rattle.tables.proofs.Sections.{agree-all, agree-parts, agree-parts-first}
 use Rattle.tables.proofs.stale.lift.Statement.{statement}
@@ -61,12 +61,12 @@ mul-power c =
 
 agree-requires-2 : tie.Need-agree-requires-2 Inv-loop μ-loop
 agree-requires-2 c κs =
-    let l = c .before .before .before .before .before .before .loop .inv in
-    let room = rowwise-next-room (l .1) (c .before .before .before .before .before .loop-test .taken) in
-    let cells = l .1 .cells in
-    let ready = l .0 .room in
-    let kept = c .before .before .before .next-lift .kept .1 .1 .1 .0 in
-    (omega arith, omega arith)
+    let c3 = c .before .before .before in
+    let c5 = c3 .before .before in
+    let l = c5 .before .loop .inv in
+    let kept = c3 .next-lift .kept .1 .1 .1 .0 in
+    let room = l .0 .room in
+    rowwise-next-fits (l .1) (c5 .loop-test .taken) (omega arith)
 
 add-result : tie.Need-add-result Inv-loop μ-loop
 add-result c =

@@ -10,7 +10,7 @@ use Rattle.tree.specs.Buffers.{visits}
 use Rattle.tree.specs.Ready.{Ready}
 use Rattle.rows.specs.Rows.{Levels}
 use Rattle.tree.proofs.Columns.{ready-kept}
-use Rattle.tables.proofs.Rowwise.{rowwise-small, rowwise-less, rowwise-room, rowwise-next-room, rowwise-next, rowwise-none}
+use Rattle.tables.proofs.Rowwise.{rowwise-small, rowwise-less, rowwise-room, rowwise-next-room, rowwise-next-fits, rowwise-next, rowwise-none}
 use Rattle.tables.proofs.TableRows.{SparseRows, tour-room, sparse-rows-start, sparse-row}
 use Rattle.tables.proofs.Sections.{agree-all, agree-parts}
 use Rattle.tables.proofs.stale.sparse.Statement.{statement}
@@ -87,12 +87,12 @@ mul-half c =
 
 agree-requires-2 : tie.Need-agree-requires-2 Inv-loop μ-loop
 agree-requires-2 c κs =
-    let l = c .before .before .before .before .before .before .loop .inv in
-    let room = rowwise-next-room (l .2) (c .before .before .before .before .before .loop-test .taken) in
-    let cells = l .2 .cells in
-    let ready = l .0 .room in
-    let kept = c .before .before .before .next-row .kept .1 .1 .1 .1 .0 in
-    (omega arith, omega arith)
+    let c3 = c .before .before .before in
+    let c5 = c3 .before .before in
+    let l = c5 .before .loop .inv in
+    let kept = c3 .next-row .kept .1 .1 .1 .1 .0 in
+    let room = l .0 .room in
+    rowwise-next-fits (l .2) (c5 .loop-test .taken) (omega arith)
 
 add-result-2 : tie.Need-add-result-2 Inv-loop μ-loop
 add-result-2 c =
