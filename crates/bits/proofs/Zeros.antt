@@ -1,8 +1,8 @@
 -- The zeros below a number's lowest one bit: a number that is not 0 is an odd number shifted up by them, and in no other way.
 -- From that, what is left of a number less its digits in common with its predecessor. Assumes nothing.
-use mathlib.Core.Path.{_≡_, ap, _∙_}
+use mathlib.Core.Path.{_≡_, refl, ap, _∙_}
 use Prim.Native.Nat.{ℕ, zero, suc, _+_, _-_, _*_, _/_, _%_, _^_, _≤_, _<_}
-use native.Mathlib.Nat.{le-refl, le-of-suc-le-suc, add-zero, suc-mul, mul-one, mul-pos, mul-left-comm, pow-succ', min-zero}
+use native.Mathlib.Nat.{le-refl, le-of-suc-le-suc, add-zero, suc-mul, one-mul, mul-one, mul-pos, mul-left-comm, pow-succ', min-zero}
 use native.Mathlib.Nat.{div-one, div-div-eq-div-mul}
 use native.Mathlib.Decide.{ℕ-discrete}
 use native.Mathlib.Omega.{arith}
@@ -43,6 +43,10 @@ in-odd (suc d) n p h = elim (ℕ-discrete (n % 2) 0) [
 pub zeros-of : (q i : ℕ) → q % 2 ≡ 1 → rightmostZeros (q * 2 ^ i) ≡ i
 unfolding rightmostZeros
 zeros-of q i o = in-of (q * 2 ^ i) q i o (le-refl (q * 2 ^ i))
+
+-- .. so a power of two has as many as its place
+pub power-zeros : (i : ℕ) → rightmostZeros (2 ^ i) ≡ i
+power-zeros i = rw one-mul at (zeros-of 1 i refl)
 
 -- a number is a multiple of each power of two up to its zeros
 pub zeros-divide : (n i : ℕ) → i ≤ rightmostZeros n → n / 2 ^ i * 2 ^ i ≡ n

@@ -22,10 +22,10 @@ use Rattle.tree.proofs.Differences.{stale-place}
 use Rattle.tree.proofs.Verdicts.{Passed, passed-accepted, accepted-passed, passed-on, first-refused}
 
 -- a test for the lowest bad number passes where its place is n, and fails where it is below
-bad-passes : (number : ℕ) (bad : ℕ → Bool) (n : ℕ) → n ≤ lowestBad number bad n .place → lowestBad number bad n .passes ≡ true
+pub bad-passes : (number : ℕ) (bad : ℕ → Bool) (n : ℕ) → n ≤ lowestBad number bad n .place → lowestBad number bad n .passes ≡ true
 bad-passes number bad n h = eq-eqb _ _ (le-antisymm (least-le bad n) h)
 
-bad-fails : (number : ℕ) (bad : ℕ → Bool) (n : ℕ) → lowestBad number bad n .place < n → lowestBad number bad n .passes ≡ false
+pub bad-fails : (number : ℕ) (bad : ℕ → Bool) (n : ℕ) → lowestBad number bad n .place < n → lowestBad number bad n .passes ≡ false
 bad-fails number bad n h = ne-eqb _ _ (ne-of-lt h)
 
 module _ (s : List ℕ) where
@@ -124,11 +124,11 @@ module _ (t : Lent) where
 -- ---- the other buffers
 
 -- what is lent to be filled: an accepted call fills it, a refused one leaves it
-pub filled-own : (v : Verdict) (own before : List ℕ) → v ≡ accepted → own ≡ filled v own before
+pub filled-own {ℓ} : {A : Type ℓ} (v : Verdict) (own before : A) → v ≡ accepted → own ≡ filled v own before
 unfolding filled
 filled-own v own before e = rw e
 
-pub filled-kept : (v : Verdict) (number place : ℕ) (own before : List ℕ) → v ≡ refused number place → before ≡ filled v own before
+pub filled-kept {ℓ} : {A : Type ℓ} (v : Verdict) (number place : ℕ) (own before : A) → v ≡ refused number place → before ≡ filled v own before
 unfolding filled
 filled-kept v number place own before e = rw e
 

@@ -4,7 +4,7 @@ use Prim.Native.Nat.{ℕ, _+_, _≤_, _<_}
 use native.Mathlib.Omega.{arith}
 use mathlib.Core.Path.{_≡_, _∙_}
 use mathlib.Core.Logic.{_↔_}
-use mathlib.Core.List.{List}
+use mathlib.Core.List.{List, [], _∷_}
 use lib.ListN.{length}
 use Rattle.tree.specs.Tree.{climb, Ancestor, rootOf, level, Tree}
 use Rattle.tree.specs.Lca.{Parts, Lca, lca}
@@ -14,13 +14,19 @@ use Rattle.tree.specs.Buffers.{labelCells, tourCells, liftCells}
 use Rattle.tree.specs.Labels.{inlabel, topmost, labelTable}
 use Rattle.tree.specs.Tour.{tourTable}
 use Rattle.tree.specs.Lifts.{liftTable}
+use Rattle.tree.specs.Tables.{own}
+use Rattle.tree.specs.Routes.{byLabels, byTour}
+use Rattle.tree.specs.Trail.{trail, byLifts, lifts, liftCount}
 use Rattle.tree.proofs.Trees.{root-found, level-below, climb-level}
-use Rattle.tree.proofs.Lcas.{lca-found, lca-only}
+use Rattle.tree.proofs.Lcas.{lca-found, lca-only, pair-only}
 use Rattle.tree.proofs.Preorders.{preorder-meets, preorder-only}
 use Rattle.tree.proofs.Inlabels.{MostZeros, size-pos, inlabel-most, inlabel-formula}
 use Rattle.tree.proofs.Intervals.{carried-from, carried-to, interval-carried}
 use Rattle.tree.proofs.Tours.{tour-length}
 use Rattle.tree.proofs.Cells.{label-length, tour-table-length, lift-length}
+use Rattle.tree.proofs.ByLabels.{labels-lca}
+use Rattle.tree.proofs.ByTour.{tour-lca}
+use Rattle.tree.proofs.ByLifts.{lifts-lca, lifts-count}
 use Rattle.tree.proofs.Acceptance.{accepted-tree, tree-accepted}
 
 -- "With buffers that fit, a sheet of 1 to 16,384 parts is accepted exactly if it is one rooted tree", which has at least its root
@@ -59,3 +65,15 @@ pub own-tables-fit : (s : List ℕ) → Accepted s
 own-tables-fit s e =
     let t = accepted-tree s e .0 in
     (label-length s, tour-table-length s (tour-length t), lift-length s)
+
+-- each of the three rules, on an accepted sheet's own tables, gives the carrier of two parts: so they agree
+pub rules-agree : (s : List ℕ) → Accepted s → (x y : ℕ) → x < length s → y < length s
+    → (byLabels (own s) x y ≡ lca s (x ∷ y ∷ [])) × (byTour (own s) x y ≡ lca s (x ∷ y ∷ [])) × (byLifts (own s) x y ≡ lca s (x ∷ y ∷ []))
+rules-agree s e x y hx hy =
+    let t = accepted-tree s e .0 in
+    (pair-only t hx hy (labels-lca t x y hx hy), pair-only t hx hy (tour-lca t x y hx hy), pair-only t hx hy (lifts-lca t x y hx hy))
+
+-- the lift rule's trail has as many rows as the sum of ones says
+pub trail-rows : (s : List ℕ) → Accepted s → (x y : ℕ) → x < length s → y < length s → length (trail (own s) x y) ≡ liftCount s x y
+unfolding lifts
+trail-rows s e x y hx hy = lifts-count (accepted-tree s e .0) x y hx hy

@@ -87,6 +87,10 @@ ancestor-above {s} {a} {v} p q = from (p .steps) (p .reaches)
     from zero e = absurd (q (sym e ∙ climb-zero s v))
     from (suc k) e = record { steps = k; reaches = ap (climb s k) (sym (climb-one s v)) ∙ sym (climb-split s 1 k (suc k) v (omega arith)) ∙ e }
 
+-- a part that names itself is carried by no other
+pub ancestor-root : {s : List ℕ} {a v : ℕ} → parent s v ≡ v → Ancestor s a v → a ≡ v
+ancestor-root {s} {a} {v} e p = sym (p .reaches) ∙ climb-stays s (p .steps) v e
+
 pub ancestor-inside : {s : List ℕ} {a v : ℕ} → Inside s → v < length s → Ancestor s a v → a < length s
 ancestor-inside {s} {a} {v} inside h p = subst (λ (x : ℕ). x < length s) (p .reaches) (climb-inside s inside (p .steps) v h)
 

@@ -3,7 +3,7 @@
 use Prim.Native.Nat.{ℕ, suc, _+_, _-_, _≤_, _<_}
 use native.Mathlib.Nat.{le-refl, zero-add}
 use native.Mathlib.Omega.{arith}
-use mathlib.Core.Path.{_≡_, refl, sym, _∙_}
+use mathlib.Core.Path.{_≡_, refl, sym, ap, _∙_}
 use mathlib.Core.Logic.{_≢_}
 use mathlib.Core.List.{List, _++_}
 use borrow.Author.Tests.{eq-eqb, ne-eqb, eqb-true, eqb-false, not-true, not-false}
@@ -132,3 +132,11 @@ store-here w p y i x h q e = rw q (getD-set-same w p y 0 h ∙ e)
 -- a cell that the store leaves holding x, whether it is the one stored to or another
 pub store-either : (w : List ℕ) (p y i x : ℕ) → p < length w → (i ≡ p → y ≡ x) → (i ≢ p → getD w i 0 ≡ x) → getD (set w p y) i 0 ≡ x
 store-either w p y i x h here other = by-equal i p (λ q. store-here w p y i x h q (here q)) (λ q. getD-set-other w p i y 0 q ∙ other q)
+
+-- a stretch from cell 0 on, and the next cell stored
+pub same-store : {w b : List ℕ} {j k y : ℕ} → k < length w → Same w 0 b j k → y ≡ getD b (j + k) 0 → Same (set w k y) 0 b j (k + 1)
+same-store {w} {b} {j} {k} {y} h p e = record {
+  cell = λ x l.
+      rw zero-add
+      (store-either w k y x (getD b (j + x) 0) h (λ q. e ∙ ap (λ (z : ℕ). getD b (j + z) 0) (sym q)) (λ q. rw zero-add at (p .cell x (omega arith))));
+}

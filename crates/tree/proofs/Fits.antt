@@ -19,6 +19,11 @@ pub unfit-later : (b : Fit) (bs : List Fit) → b .fits ≡ true → firstUnfit 
 unfolding firstUnfit
 unfit-later b bs e = rw e
 
+-- the last one that fits leaves none
+pub unfit-last : (b : Fit) → b .fits ≡ true → firstUnfit (b ∷ []) ≡ 0
+unfolding firstUnfit
+unfit-last b e = rw e
+
 -- where none is named, each fits
 pub all-fit : (b : Fit) (bs : List Fit) → b .buffer ≢ 0 → firstUnfit (b ∷ bs) ≡ 0 → (b .fits ≡ true) × (firstUnfit bs ≡ 0)
 all-fit b bs q e =

@@ -9,12 +9,13 @@ use mathlib.Core.Logic.{_≢_}
 use mathlib.Core.Bool.{true, false}
 use mathlib.Core.List.{List}
 use borrow.Author.Tests.{ltb-false}
-use lib.Bits.{bitXor, differ, xor-add-and, xor-step, xor-shr, xor-self, and-le-l, and-le-r}
+use lib.Bits.{bitXor, differ, xor-step, xor-shr, xor-self}
 use lib.ListN.{length}
 use lib.Pow.{pow-pos, shr-mono}
 use Rattle.bits.specs.Bits.{log2, rightmostZeros, clearBelow}
 use Rattle.bits.proofs.Log.{log2-low, log2-high}
 use Rattle.bits.proofs.Zeros.{zeros-of, zeros-divide}
+use Rattle.bits.proofs.Ones.{shift-suc, xor-zero}
 use Rattle.tree.specs.Scan.{best, range}
 use Rattle.tree.specs.Tree.{isAncestor, Tree}
 use Rattle.tree.specs.Preorder.{preorderNumber, size}
@@ -30,10 +31,6 @@ pub record MostZeros (a k m : ℕ) : Type 0 where
   pub most : (j : ℕ) → a ≤ j → j < a + k → j ≢ m → rightmostZeros j < rightmostZeros m
 
 -- ---- the highest bit in which two numbers differ
-
--- numbers that differ in no bit are equal
-xor-zero : (x y : ℕ) → bitXor x y ≡ 0 → x ≡ y
-xor-zero x y e = omega (arith, xor-add-and x y, and-le-l x y, and-le-r x y)
 
 -- numbers that differ in their lowest bit alone
 xor-one : (p q : ℕ) → bitXor p q ≡ 1 → (p / 2 ≡ q / 2) × (p ≢ q)
@@ -90,6 +87,14 @@ block-most x y i t k e =
           (λ l. omega arith);
     }
 
+-- the numbers above x and up to y agree above bit i
+block-above : (x y i j : ℕ) → Top x y i → x < j → j ≤ y → j / 2 ^ suc i ≡ y / 2 ^ suc i
+block-above x y i j t h b =
+    let low : x / 2 ^ i ≤ j / 2 ^ i = shr-mono i (omega arith) in
+    let high : j / 2 ^ i ≤ y / 2 ^ i = shr-mono i b in
+    let halves : j / 2 ^ i / 2 ≡ y / 2 ^ i / 2 = omega arith in
+    shift-suc j i ∙ halves ∙ sym (shift-suc y i)
+
 pub topmost-most : (a k : ℕ) → 0 < a → 0 < k → MostZeros a k (topmost a k)
 unfolding topmost clearBelow
 topmost-most (suc x) k h b =
@@ -98,6 +103,23 @@ topmost-most (suc x) k h b =
     let begin : suc x - 1 ≡ x = omega arith in
     rw begin (block-most x y (log2 (bitXor x y)) (top x y less) k (omega arith))
 topmost-most zero k h b = absurd (not-suc-le-zero h)
+
+-- the numbers of the interval agree above its lowest one bit
+topmost-above : (a k j : ℕ) → 0 < a → a ≤ j → j < a + k
+    → j / 2 ^ suc (rightmostZeros (topmost a k)) ≡ topmost a k / 2 ^ suc (rightmostZeros (topmost a k))
+unfolding topmost clearBelow
+topmost-above (suc x) k j h from to =
+    let y = suc x + k - 1 in
+    let less : x < y = omega arith in
+    let begin : suc x - 1 ≡ x = omega arith in
+    let i = log2 (bitXor x y) in
+    let highest = top x y less in
+    let m = y / 2 ^ i * 2 ^ i in
+    let most = block-most x y i highest k (omega arith) in
+    let zeros : rightmostZeros m ≡ i = zeros-of (y / 2 ^ i) i (highest .odd) in
+    let here : m / 2 ^ suc i ≡ y / 2 ^ suc i = block-above x y i m highest (most .from) (omega arith) in
+    rw (begin, zeros) (block-above x y i j highest from (omega arith) ∙ sym here)
+topmost-above zero k j h from to = absurd (not-suc-le-zero h)
 
 -- ---- the wording's number
 
@@ -136,3 +158,9 @@ inlabel-formula {s} t v h =
 pub inlabel-most : {s : List ℕ} → Tree s → (v : ℕ) → v < length s → MostZeros (preorderNumber s v) (size s v) (inlabel s v)
 unfolding preorderNumber
 inlabel-most {s} t v h = rw (inlabel-formula t v h) (topmost-most _ _ (zero-lt-suc _) (size-pos t v h))
+
+-- the numbers of the interval agree above INLABEL's lowest one bit
+pub inlabel-above : {s : List ℕ} → Tree s → (v j : ℕ) → v < length s → preorderNumber s v ≤ j → j < preorderNumber s v + size s v
+    → j / 2 ^ suc (rightmostZeros (inlabel s v)) ≡ inlabel s v / 2 ^ suc (rightmostZeros (inlabel s v))
+unfolding preorderNumber
+inlabel-above {s} t v j h from to = rw (inlabel-formula t v h) (topmost-above _ _ j (zero-lt-suc _) from to)

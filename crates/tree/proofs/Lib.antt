@@ -10,6 +10,7 @@ pub mod Climbs
 pub mod Roots
 pub mod Trees
 pub mod Lcas
+pub mod Lists
 -- preorder and the labels
 pub mod Precedes
 pub mod PreorderList
@@ -27,12 +28,22 @@ pub mod Columns
 pub mod Sparse
 pub mod Doubling
 pub mod Differences
+pub mod OwnCells
+-- the routes' rules
+pub mod Ascents
+pub mod ByLabels
+pub mod ByTour
+pub mod Falling
+pub mod Levelled
+pub mod Raised
+pub mod ByLifts
 -- the tests of a sheet
 pub mod Verdicts
 pub mod Places
 pub mod Answers
 pub mod Fits
 pub mod Acceptance
+pub mod Questions
 -- what is shown
 pub mod Claims
 pub mod Known

@@ -12,8 +12,9 @@ use lib.Dec.{eqb}
 use lib.ListN.{length, getD}
 use lib.Pow.{pow-pos, pow-mono}
 use Rattle.bits.specs.Bits.{log2, rightmostZeros, lowestOne}
-use Rattle.bits.proofs.Log.{log2-high}
-use Rattle.bits.proofs.Zeros.{zeros-odd}
+use Rattle.bits.proofs.Log.{log2-low, log2-high}
+use Rattle.bits.proofs.Zeros.{power-zeros, zeros-odd}
+use Rattle.bits.proofs.Ones.{lowest-power}
 use Rattle.tree.specs.Scan.{range, keep, best}
 use Rattle.tree.specs.Tree.{parent, Ancestor, isRoot, level, Tree}
 use Rattle.tree.specs.Buffers.{none}
@@ -21,7 +22,7 @@ use Rattle.tree.specs.Preorder.{preorder, preorderNumber, size}
 use Rattle.tree.specs.Labels.{inlabel, ascendantIn, ascendant, nearerRoot, head}
 use Rattle.tree.proofs.Scans.{by-order, by-equal}
 use Rattle.tree.proofs.Bests.{ltb-asym, ltb-trans, best-is, range-member, member-range, keep-member, member-keep}
-use Rattle.tree.proofs.Climbs.{ancestor-above, climb-stays, ancestor-parent}
+use Rattle.tree.proofs.Climbs.{ancestor-above, ancestor-root, ancestor-parent}
 use Rattle.tree.proofs.Roots.{is-root}
 use Rattle.tree.proofs.Trees.{level-below, level-parent, ancestors-ordered}
 use Rattle.tree.proofs.Sizes.{size-root, preorder-pos, preorder-root, preorder-number-at, preorder-part}
@@ -29,10 +30,6 @@ use Rattle.tree.proofs.Intervals.{carried-from, carried-to, interval-ca
 use Rattle.tree.proofs.Inlabels.{inlabel-most}
 
 -- ---- the lowest one bit of a number that is not 0
-
-lowest-power : (m : ℕ) → 0 < m → lowestOne m ≡ 2 ^ rightmostZeros m
-unfolding lowestOne
-lowest-power m h = let some : m ≢ 0 = omega arith in rw (ne-eqb m 0 some)
 
 lowest-most : (m : ℕ) → 0 < m → 2 ^ rightmostZeros m ≤ m
 lowest-most m h =
@@ -70,19 +67,25 @@ module _ {s : List ℕ} (t : Tree s) where
       let all = size-root t in
       omega arith
 
-  inlabel-pos : (v : ℕ) → v < length s → 0 < inlabel s v
+  pub inlabel-pos : (v : ℕ) → v < length s → 0 < inlabel s v
   inlabel-pos v h = lt-of-lt-of-le (preorder-pos s v) (inlabel-low v h)
 
-  -- the INLABEL of what a node carries is in the node's interval, so where it differs from the node's own it has fewer rightmost zeros
-  fewer-zeros : {a v : ℕ} → a < length s → v < length s → Ancestor s a v → inlabel s v ≢ inlabel s a
+  -- the INLABEL of what a node carries is in the node's interval
+  pub inlabel-carried : {a v : ℕ} → v < length s → Ancestor s a v
+      → (preorderNumber s a ≤ inlabel s v) × (inlabel s v < preorderNumber s a + size s a)
+  inlabel-carried {a} {v} hv p = (le-trans (carried-from t hv p) (inlabel-low v hv), lt-of-lt-of-le (inlabel-high v hv) (carried-to t hv p))
+
+  -- .. so where it differs from the node's own it has fewer rightmost zeros
+  pub fewer-zeros : {a v : ℕ} → a < length s → v < length s → Ancestor s a v → inlabel s v ≢ inlabel s a
       → rightmostZeros (inlabel s v) < rightmostZeros (inlabel s a)
   fewer-zeros {a} {v} ha hv p q =
-      inlabel-most t a ha .most (inlabel s v) (le-trans (carried-from t hv p) (inlabel-low v hv)) (lt-of-lt-of-le (inlabel-high v hv) (carried-to t hv p)) q
+      let (from, to) = inlabel-carried hv p in
+      inlabel-most t a ha .most (inlabel s v) from to q
 
   -- ---- the nodes of one INLABEL
 
   -- each carries the node whose number it is, so one carries the other
-  one-path : (u v : ℕ) → u < length s → v < length s → inlabel s u ≡ inlabel s v → level s u ≤ level s v → Ancestor s u v
+  pub one-path : (u v : ℕ) → u < length s → v < length s → inlabel s u ≡ inlabel s v → level s u ≤ level s v → Ancestor s u v
   one-path u v hu hv e l =
       let m = inlabel s v in
       let some : 0 < m = inlabel-pos v hv in
@@ -117,7 +120,7 @@ module _ {s : List ℕ} (t : Tree s) where
   top-only {u} {v} hu hv e l top =
       let p = one-path u v hu hv e l in
       by-equal u v (λ q. q)
-      (λ q. ⊎-elim (λ root. sym (p .reaches) ∙ climb-stays s (p .steps) v root) (λ other. absurd (other (parent-on-path hu hv p q e))) top)
+      (λ q. ⊎-elim (λ root. ancestor-root root p) (λ other. absurd (other (parent-on-path hu hv p q e))) top)
 
   -- ---- HEAD
 
@@ -197,19 +200,29 @@ module _ {s : List ℕ} (t : Tree s) where
   unfolding ascendantIn ascendant isRoot
   ascendant-step v h q = one-more v h ∙ rw (ne-eqb _ _ q)
 
-  root-below : ascendant s (t .root) + lowestOne (inlabel s (t .root)) ≤ 2 ^ suc (log2 (length s))
-  root-below =
+  -- the root's INLABEL has its lowest one bit where ASCENDANT has its one
+  pub root-zeros : rightmostZeros (inlabel s (t .root)) ≡ log2 (length s)
+  root-zeros =
       let l = log2 (length s) in
       let h = t .root-inside in
       let m = inlabel s (t .root) in
-      let some = inlabel-pos (t .root) h in
+      let low = lowest-most m (inlabel-pos (t .root) h) in
       let most = inlabel-most-n (t .root) h in
-      let low = lowest-most m some in
       let high = log2-high (length s) in
-      let zeros : rightmostZeros m ≤ l =
+      let at-most : rightmostZeros m ≤ l =
       by-order (rightmostZeros m) l (λ a. a) (λ a. let more : 2 ^ suc l ≤ 2 ^ rightmostZeros m = pow-mono a in absurd (omega arith)) in
-      let bit : 2 ^ rightmostZeros m ≤ 2 ^ l = pow-mono zeros in
-      rw (ascendant-root, lowest-power m some) (omega (arith, pow-suc 2 l))
+      let zeros = power-zeros l in
+      let first = preorder-root t in
+      let all = size-root t in
+      let from : 1 ≤ 2 ^ l = pow-pos l in
+      let to : 2 ^ l ≤ length s = log2-low (length s) (omega arith) in
+      by-equal (2 ^ l) m
+      (λ e. ap rightmostZeros (sym e) ∙ zeros)
+      (λ q. let more = inlabel-most t (t .root) h .most (2 ^ l) (omega arith) (omega arith) q in absurd (omega arith))
+
+  root-below : ascendant s (t .root) + lowestOne (inlabel s (t .root)) ≤ 2 ^ suc (log2 (length s))
+  root-below =
+      rw (ascendant-root, lowest-power (inlabel s (t .root)) (inlabel-pos (t .root) (t .root-inside)), root-zeros) (omega arith)
 
   below-in : (f v : ℕ) → v < length s → level s v < f → ascendant s v + lowestOne (inlabel s v) ≤ 2 ^ suc (log2 (length s))
   below-in zero v h a = absurd (not-suc-le-zero a)

@@ -3,17 +3,16 @@
 use Prim.Native.Nat.{ℕ, suc, _≤_, _<_}
 use native.Mathlib.Nat.{le-antisymm}
 use native.Mathlib.Omega.{arith}
-use mathlib.Core.Path.{_≡_, refl, sym, ap, _∙_, subst}
-use mathlib.Core.Logic.{_≢_, _⊎_, inl, inr, ⊎-elim}
-use mathlib.Core.List.{List, [], _∷_, List·Memᴰ, List·Memᴰ·head, List·Memᴰ·tail, List·Memᴰ·cases-cons, List·Memᴰ·eq-of-singleton}
-use lib.Dec.{lit<}
+use mathlib.Core.Path.{_≡_, refl, sym, ap, _∙_}
+use mathlib.Core.Logic.{_≢_, _⊎_, inl, inr}
+use mathlib.Core.List.{List, [], _∷_, List·Memᴰ·head, List·Memᴰ·tail}
 use lib.ListN.{length}
 use Rattle.tree.specs.Tree.{parent, Ancestor, level, Tree}
 use Rattle.tree.specs.Lca.{Common, lca}
 use Rattle.tree.proofs.Scans.{by-order, by-equal}
 use Rattle.tree.proofs.Climbs.{ancestor-parent, ancestor-refl, ancestor-trans, ancestor-inside}
 use Rattle.tree.proofs.Trees.{level-parent, above, ancestors-ordered, same-level, ancestor-antisym, ChildToward, child-toward}
-use Rattle.tree.proofs.Lcas.{lca-found}
+use Rattle.tree.proofs.Lcas.{each-of-two, pair-found}
 
 -- "two parts with the same entry, the root apart", a the lower number
 pub record Siblings (s : List ℕ) (a b : ℕ) : Type 0 where
@@ -28,11 +27,6 @@ pub record Siblings (s : List ℕ) (a b : ℕ) : Type 0 where
 pub data Precedes (s : List ℕ) (x y : ℕ) : Type 0 where
   carries : Ancestor s x y → y ≢ x → Precedes s x y
   beside : (a b : ℕ) → Siblings s a b → Ancestor s a x → Ancestor s b y → Precedes s x y
-
--- what holds of x and of y holds of each member of the list of both
-pub each-of-two : (P : ℕ → Type 0) {x y : ℕ} → P x → P y → (z : ℕ) → List·Memᴰ z (x ∷ y ∷ []) → P z
-each-of-two P px py z m =
-    ⊎-elim (λ e. subst P (sym e) px) (λ m′. subst P (sym (List·Memᴰ·eq-of-singleton m′)) py) (List·Memᴰ·cases-cons m)
 
 module _ {s : List ℕ} (t : Tree s) where
   siblings-level : {a b : ℕ} → Siblings s a b → level s a ≡ level s b
@@ -104,7 +98,7 @@ module _ {s : List ℕ} (t : Tree s) where
 
   pub precedes-total : {x y : ℕ} → x < length s → y < length s → x ≢ y → Precedes s x y ⊎ Precedes s y x
   precedes-total {x} {y} hx hy q =
-      let l = lca-found t (x ∷ y ∷ []) (lit< tt) (each-of-two (λ v. v < length s) hx hy) in
+      let l = pair-found t hx hy in
       let c = lca s (x ∷ y ∷ []) in
       let cx = l .common x (List·Memᴰ·head refl) in
       let cy = l .common y (List·Memᴰ·tail (List·Memᴰ·head refl)) in

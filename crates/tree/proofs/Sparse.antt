@@ -1,12 +1,12 @@
 -- The sparse rows of the tour table: row 0 is the positions themselves, each later row follows from the one before it, and each cell that
--- is not 65535 stands in its block. Assumes nothing.
+-- is not 65535 is a position of its block, where none has lesser LEVEL. Assumes nothing.
 use Prim.Native.Nat.{ℕ, suc, _+_, _^_, _≤_, _<_}
 use native.Mathlib.Nat.{pow-suc}
 use native.Mathlib.Omega.{arith}
 use mathlib.Core.Path.{_≡_, _∙_}
 use mathlib.Core.Bool.{true, false, cond}
 use mathlib.Core.List.{List}
-use borrow.Author.Tests.{le-leb, lt-leb}
+use borrow.Author.Tests.{le-leb, lt-leb, ltb-false}
 use lib.ListN.{length, getD}
 use lib.Pow.{pow-pos}
 use Rattle.tree.specs.Scan.{tabulateFrom, range, bestFrom, best}
@@ -14,7 +14,7 @@ use Rattle.tree.specs.Tree.{level}
 use Rattle.tree.specs.Buffers.{none, visits}
 use Rattle.tree.specs.Preorder.{tour}
 use Rattle.tree.specs.Tour.{lesserLevel, sparse}
-use Rattle.tree.proofs.Bests.{ltb-asym, ltb-trans, best-is, best-append, length-range, range-append, range-member}
+use Rattle.tree.proofs.Bests.{Best, ltb-asym, ltb-trans, best-is, best-append, length-range, range-append, range-member, member-range}
 
 module _ (s : List ℕ) where
   lesser-asym : (p q : ℕ) → lesserLevel s p q ≡ true → lesserLevel s q p ≡ false
@@ -52,10 +52,12 @@ module _ (s : List ℕ) where
   unfolding sparse
   sparse-end j i h = rw (lt-leb (i + 2 ^ j) (visits (length s)) h)
 
+  -- so each such cell is the best position of its block
+  best-position : (j i : ℕ) → i + 2 ^ j ≤ visits (length s) → Best (lesserLevel s) (range i (2 ^ j)) (sparse s j i)
+  best-position j i h = rw (leftmost j i h) (best-is (lesserLevel s) lesser-asym lesser-trans none (range i (2 ^ j)) (block i j))
+
   inside : (j i : ℕ) → i + 2 ^ j ≤ visits (length s) → (i ≤ sparse s j i) × (sparse s j i < i + 2 ^ j)
-  inside j i h =
-      rw (leftmost j i h)
-      (range-member i (2 ^ j) _ (best-is (lesserLevel s) lesser-asym lesser-trans none (range i (2 ^ j)) (block i j) .member))
+  inside j i h = range-member i (2 ^ j) (sparse s j i) (best-position j i h .member)
 
   -- the position stands in its block: not before it
   pub sparse-from : (j i : ℕ) → i + 2 ^ j ≤ visits (length s) → i ≤ sparse s j i
@@ -64,3 +66,8 @@ module _ (s : List ℕ) where
   -- .. nor after it
   pub sparse-to : (j i : ℕ) → i + 2 ^ j ≤ visits (length s) → sparse s j i < i + 2 ^ j
   sparse-to j i h = inside j i h .1
+
+  -- no position of the block has lesser LEVEL
+  pub sparse-least : (j i p : ℕ) → i + 2 ^ j ≤ visits (length s) → i ≤ p → p < i + 2 ^ j
+      → level s (getD (tour s) (sparse s j i) 0) ≤ level s (getD (tour s) p 0)
+  sparse-least j i p h from to = ltb-false _ _ (best-position j i h .wins p (member-range i (2 ^ j) p from to))

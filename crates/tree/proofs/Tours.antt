@@ -1,4 +1,5 @@
--- The tour: where each node's first visit stands, what stands after the visits of a child, and that the tour has no other cell.
+-- The tour: where each node's first visit stands, what stands after the visits of a child, that the tour has no other cell, and that the
+-- visits of a node are those of what it carries.
 -- Assumes nothing.
 use Prim.Native.Nat.{ℕ, zero, suc, _+_, _-_, _*_, _≤_, _<_}
 use native.Mathlib.Nat.{le-antisymm, le-of-eq, zero-lt-suc}
@@ -7,15 +8,17 @@ use mathlib.Core.Path.{_≡_, refl, sym, ap, _∙_, subst}
 use mathlib.Core.Logic.{_≢_}
 use mathlib.Core.List.{List, [], _∷_, _++_}
 use lib.ListN.{length, getD, length-append}
-use Rattle.tree.specs.Tree.{parent, rootOf, level, Tree}
+use Rattle.tree.specs.Tree.{parent, Ancestor, rootOf, level, Tree}
 use Rattle.tree.specs.Preorder.{eachChild, preorderNumber, size, tourIn, tour, firstVisit, childSum}
 use Rattle.tree.specs.Buffers.{visits}
 use Rattle.tree.proofs.Scans.{by-equal, position-here, position-at-most}
-use Rattle.tree.proofs.Trees.{root-found, level-root, level-below, level-parent, from-root}
+use Rattle.tree.proofs.Climbs.{ancestor-refl, ancestor-parent, ancestor-trans, ancestor-above, ancestor-inside}
+use Rattle.tree.proofs.Trees.{root-climb, root-found, level-root, level-below, level-parent, from-root, above}
 use Rattle.tree.proofs.PreorderList.{child-deeper}
 use Rattle.tree.proofs.Sums.{each-length, sum-same, sum-double, summand}
 use Rattle.tree.proofs.Blocks.{Stands, stands-at, stands-within, stands-right, Visiting, Block, block-opens, block-child, block}
 use Rattle.tree.proofs.Sizes.{size-sum, size-root, preorder-pos, preorder-root, preorder-child, preorder-parent}
+use Rattle.tree.proofs.Intervals.{carried-to}
 
 -- a position of the tour is a node's first visit, or the visit of its parent after the node's own
 pub data Visit (s : List ℕ) (i : ℕ) : Type 0 where
@@ -117,17 +120,17 @@ module _ {s : List ℕ} (t : Tree s) where
 
   -- ---- there is no other cell
 
-  -- a position is where the visits of a node begin, or after them
-  module _ {X : Type 0} (i : ℕ) (begins : (v : ℕ) → v < length s → i ≡ start s v → X)
-      (follows : (v : ℕ) → v < length s → parent s v ≢ v → i ≡ start s v + 2 * size s v - 1 → X) where
-    cover-in : (f v k : ℕ) → v < length s → length s ≤ f + level s v → suc k < 2 * size s v → i ≡ start s v + k → X
-    cover-in zero v k h enough b e = let deep = level-below t v h in absurd (omega arith)
-    cover-in (suc f) v k h enough b e =
+  -- a position among the visits of a is where the visits of a node that a carries begin, or after those of such a node's child
+  module _ {X : Type 0} (a i : ℕ) (begins : (v : ℕ) → v < length s → Ancestor s a v → i ≡ start s v → X)
+      (follows : (v : ℕ) → v < length s → parent s v ≢ v → Ancestor s a (parent s v) → i ≡ start s v + 2 * size s v - 1 → X) where
+    cover-in : (f v k : ℕ) → v < length s → Ancestor s a v → length s ≤ f + level s v → suc k < 2 * size s v → i ≡ start s v + k → X
+    cover-in zero v k h p enough b e = let deep = level-below t v h in absurd (omega arith)
+    cover-in (suc f) v k h p enough b e =
         let deeper = cover-in f in
         let n = length s in
         let g : ℕ → ℕ = λ c. 2 * size s c in
         by-equal k 0
-        (λ z. begins v h (omega arith))
+        (λ z. begins v h p (omega arith))
         (λ z.
         let whole = size-sum t v h in
         let double = sum-double s v (size s) n in
@@ -136,16 +139,22 @@ module _ {s : List ℕ} (t : Tree s) where
         let q : parent s c ≢ c = λ y. r .is .other (sym y ∙ r .is .of) in
         let deep = child-deeper t (r .below) (r .is) in
         let begin : start s c ≡ start s v + suc (childSum s v g c) = rw (r .is .of) at (start-parent c (r .below) q) in
+        let up : Ancestor s a (parent s c) = rw (r .is .of) p in
         let j = k - 1 - childSum s v g c in
         by-equal (suc j) (2 * size s c)
-        (λ y. follows c (r .below) q (omega arith))
-        (λ y. deeper c j (r .below) (omega arith) (omega arith) (omega arith)))
+        (λ y. follows c (r .below) q up (omega arith))
+        (λ y. deeper c j (r .below) (ancestor-trans up (ancestor-parent s c)) (omega arith) (omega arith) (omega arith)))
 
-    cover : i < visits (length s) → X
-    cover b =
-        let all = size-root t in
-        let begin = start-root in
-        cover-in (length s) (t .root) i (t .root-inside) (omega arith) (omega arith) (omega arith)
+    cover-block : a < length s → start s a ≤ i → suc i < start s a + 2 * size s a → X
+    cover-block h from to = cover-in (length s) a (i - start s a) h (ancestor-refl s a) (omega arith) (omega arith) (omega arith)
+
+  -- .. and the visits of the root are the tour
+  cover : {X : Type 0} (i : ℕ) → ((v : ℕ) → v < length s → i ≡ start s v → X)
+      → ((v : ℕ) → v < length s → parent s v ≢ v → i ≡ start s v + 2 * size s v - 1 → X) → i < visits (length s) → X
+  cover i begins follows b =
+      let all = size-root t in
+      let begin = start-root in
+      cover-block (t .root) i (λ v h _. begins v h) (λ v h q _. follows v h q) (t .root-inside) (omega arith) (omega arith)
 
   -- ---- first visits
 
@@ -212,3 +221,40 @@ module _ {s : List ℕ} (t : Tree s) where
   visit-part i b =
       cover i (λ v h e. rw (e, start-cell v h) h)
       (λ v h q e. rw (e, after-cell v h q) (t .inside v h)) b
+
+  -- a first visit stands in the tour
+  pub first-inside : (v : ℕ) → v < length s → firstVisit s v < visits (length s)
+  first-inside v h = let end = visits-end v h in let some = size-sum t v h in omega arith
+
+  -- ---- the visits of what a node carries
+
+  -- they begin no sooner than the node's own
+  pub carried-first : {a v : ℕ} → v < length s → Ancestor s a v → firstVisit s a ≤ firstVisit s v
+  carried-first {a} {v} h =
+      from-root t (λ u. Ancestor s a u → firstVisit s a ≤ firstVisit s u)
+      (λ p. le-of-eq (ap (firstVisit s) (sym (p .reaches) ∙ root-climb t (p .steps))))
+      (λ u b q higher p.
+      by-equal a u (λ e. le-of-eq (ap (firstVisit s) e))
+      (λ e.
+      let up = higher (ancestor-above p e) in
+      let begin = start-parent u b q in
+      let here = first-start u b in
+      let there = first-start (parent s u) (t .inside u b) in
+      omega arith))
+      v h
+
+  -- .. and end no later
+  pub carried-end : {a v : ℕ} → v < length s → Ancestor s a v → firstVisit s v + 2 * size s v ≤ firstVisit s a + 2 * size s a
+  carried-end {a} {v} h p =
+      let within = carried-to t h p in
+      let lower = above t h p .lower in
+      let here = first-visit v h in
+      let there = first-visit a (ancestor-inside (t .inside) h p) in
+      let pos = preorder-pos s a in
+      omega (arith, preorder-pos s v)
+
+  -- from a node's first visit to the last only nodes stand that it carries
+  pub visit-carried : {a : ℕ} (i : ℕ) → a < length s → firstVisit s a ≤ i → suc i < firstVisit s a + 2 * size s a → Ancestor s a (getD (tour s) i 0)
+  visit-carried {a} i h from to =
+      let begin = first-start a h in
+      cover-block a i (λ v b p e. rw (e, start-cell v b) p) (λ v b q p e. rw (e, after-cell v b q) p) h (omega arith) (omega arith)

@@ -5,7 +5,9 @@ use mathlib.Core.Path.{_≡_, refl, sym, _∙_}
 use mathlib.Core.Bool.{true, false}
 use mathlib.Core.List.{List, [], _∷_, _++_}
 use native.Mathlib.Omega.{arith}
-use Rattle.tree.specs.Verdict.{accepted, refused}
+use Rattle.tree.specs.declared.Outcome.{Outcome}
+use Rattle.tree.specs.declared.Outcome.the-variants.{Accepted, Refused}
+use Rattle.tree.specs.Verdict.{Verdict, accepted, refused, verdictOf}
 use Rattle.tree.specs.Tests.{Test, verdict}
 use Rattle.tree.proofs.Scans.{by-test}
 
@@ -22,6 +24,11 @@ verdict-fail : (t : Test) (ts : List Test) → t .passes ≡ false → verdict (
 unfolding verdict
 verdict-fail t ts e = rw e
 
+-- no verdict accepts and refuses
+pub not-both : {v : Verdict} {number place : ℕ} → v ≡ accepted → v ≡ refused number place → ⊥
+not-both {number = number} {place = place} e f =
+    let both : accepted ≡ refused number place = sym e ∙ f in let z : _≡_ {A = ℕ} 0 1 = cc in omega arith
+
 pub passed-accepted : (ts : List Test) → Passed ts → verdict ts ≡ accepted
 unfolding verdict
 passed-accepted [] p = refl
@@ -33,8 +40,7 @@ accepted-passed [] e = tt
 accepted-passed (t ∷ ts) e =
     let rest = accepted-passed ts in
     by-test (t .passes) (λ p. (p, rest (sym (verdict-pass t ts p) ∙ e)))
-    (λ p. let never : refused (t .number) (t .place) ≡ accepted = sym (verdict-fail t ts p) ∙ e in
-    let z : _≡_ {A = ℕ} 0 1 = cc in absurd (omega arith))
+    (λ p. absurd (not-both e (verdict-fail t ts p)))
 
 -- tests that pass leave the verdict to those after them
 pub passed-on : (before after : List Test) → Passed before → verdict (before ++ after) ≡ verdict after
@@ -52,8 +58,23 @@ accepted-on before after e = passed-on before after (accepted-passed before e)
 
 pub refused-on : (before after : List Test) (number place : ℕ) → verdict before ≡ refused number place → verdict (before ++ after) ≡ refused number place
 unfolding verdict
-refused-on [] after number place e = let never : accepted ≡ refused number place = e in let z : _≡_ {A = ℕ} 0 1 = cc in absurd (omega arith)
+refused-on [] after number place e = absurd (not-both refl e)
 refused-on (t ∷ before) after number place e =
     let rest = refused-on before after number place in
     by-test (t .passes) (λ p. verdict-pass t (before ++ after) p ∙ rest (sym (verdict-pass t before p) ∙ e))
     (λ p. verdict-fail t (before ++ after) p ∙ sym (verdict-fail t before p) ∙ e)
+
+-- tests that accept end to end accept apart
+pub accepted-both : (before after : List Test) → verdict (before ++ after) ≡ accepted → (verdict before ≡ accepted) × (verdict after ≡ accepted)
+unfolding verdict
+accepted-both [] after e = (refl, e)
+accepted-both (t ∷ before) after e =
+    let rest = accepted-both before after in
+    let (passes, _) = accepted-passed (t ∷ before ++ after) e in
+    let (first, last) = rest (sym (verdict-pass t (before ++ after) passes) ∙ e) in
+    (verdict-pass t before passes ∙ first, last)
+
+-- an outcome whose verdict accepts is the case that says so
+pub accepted-case : (r : Outcome) → verdictOf r ≡ accepted → r ≡ Accepted
+accepted-case Accepted e = refl
+accepted-case (Refused why) e = absurd (not-both e refl)

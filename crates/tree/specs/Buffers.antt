@@ -93,7 +93,7 @@ workAfter accepted work = replicate (length work) 0
 workAfter (refused number place) work = cond (leb number 3) work (replicate (length work) 0)
 
 -- "No refusal alters another buffer, and an accepted call alters only work and what it was lent to fill": a buffer lent to be
--- filled, which an accepted call fills with `own`
-unfoldable pub filled : Verdict → List ℕ → List ℕ → List ℕ
+-- filled, which an accepted call fills with `own`; in the same way a number that an accepted call gives
+unfoldable pub filled {ℓ} : {A : Type ℓ} → Verdict → A → A → A
 filled accepted own before = own
 filled (refused number place) own before = before

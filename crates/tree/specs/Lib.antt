@@ -17,6 +17,7 @@ pub mod Trail
 pub mod Verdict
 pub mod Tests
 pub mod Ready
+pub mod Nodes
 pub mod Buffers
 -- "Known sheets"
 pub mod Known

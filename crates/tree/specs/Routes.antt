@@ -23,6 +23,10 @@ parts t = length (t .parents)
 
 -- ---- the label table's columns
 
+-- PREORDER
+abbrev pub numberAt : Lent → ℕ → ℕ
+numberAt t v = cell (t .label) 0 (parts t) 0 v
+
 abbrev pub levelAt : Lent → ℕ → ℕ
 levelAt t v = cell (t .label) 0 (parts t) 2 v
 
@@ -83,11 +87,13 @@ firstAt t v = getD (t .tour) (visits (parts t) + v) 0
 abbrev pub sparseAt : Lent → ℕ → ℕ → ℕ
 sparseAt t j i = cell (t .tour) (visits (parts t) + parts t) (visits (parts t)) j i
 
--- "A tour answer takes two blocks of length 2^k, k = log(j−i+1), over first positions i ≤ j: one begins at i, the other ends at j. Of
--- the two positions that their cells give, the answer is the part visited at the one of lesser LEVEL, the left one at equal LEVELs"
-unfoldable pub byTour : Lent → ℕ → ℕ → ℕ
-byTour t x y =
-    let i = min (firstAt t x) (firstAt t y) in
-    let j = max (firstAt t x) (firstAt t y) in
+-- "two blocks of length 2^k, k = log(j−i+1), over first positions i ≤ j: one begins at i, the other ends at j. Of the two positions that
+-- their cells give, the answer is the part visited at the one of lesser LEVEL, the left one at equal LEVELs"
+abbrev pub byBlocks : Lent → ℕ → ℕ → ℕ
+byBlocks t i j =
     let k = log2 (j - i + 1) in
     nearer t (visitAt t (sparseAt t k i)) (visitAt t (sparseAt t k (j + 1 - 2 ^ k)))
+
+-- "A tour answer takes" them over the first positions of both parts
+unfoldable pub byTour : Lent → ℕ → ℕ → ℕ
+byTour t x y = byBlocks t (min (firstAt t x) (firstAt t y)) (max (firstAt t x) (firstAt t y))

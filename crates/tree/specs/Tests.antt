@@ -93,6 +93,14 @@ sheetTests s buffer = empty s ∷ tooLarge limit s ∷ wrongLength buffer ∷ tr
 abbrev pub lentTests : Lent → ℕ → List Test
 lentTests t buffer = sheetTests (t .parents) buffer ++ (staleTable t ∷ [])
 
+-- the tests of a question, 9 to 11
+abbrev pub questionTests : List ℕ → List ℕ → List Test
+questionTests s question = nothingListed question ∷ nodeOutOfRange s question ∷ noCommonAncestor s question ∷ []
+
+-- the tests of a call that answers a question, 1 to 11
+abbrev pub askedTests : Lent → ℕ → List ℕ → List Test
+askedTests t buffer question = lentTests t buffer ++ questionTests (t .parents) question
+
 -- a sheet that is accepted where the buffers fit
 abbrev pub Accepted : List ℕ → Type 0
 Accepted s = verdict (sheetTests s 0) ≡ accepted

@@ -5,6 +5,8 @@ use Rattle.tree.specs.declared.Refusal.{Refusal}
 use Rattle.tree.specs.declared.Refusal.the-variants.{Empty, TooLarge, WrongLength, ParentOutOfRange, NoRoot, SecondRoot, Cycle, StaleTable, NothingListed, NodeOutOfRange, NoCommonAncestor, MalformedLine}
 use Rattle.tree.specs.declared.Outcome.{Outcome}
 use Rattle.tree.specs.declared.Outcome.the-variants.{Accepted, Refused}
+use Rattle.tree.specs.declared.Traced.{Traced}
+use Rattle.tree.specs.declared.Traced.the-variants as traced
 
 -- "A refusal carries a number and a place"
 pub data Verdict : Type 0 where
@@ -36,3 +38,8 @@ placeOf r = numbered r .1
 abbrev pub verdictOf : Outcome → Verdict
 verdictOf Accepted = accepted
 verdictOf (Refused r) = refused (numberOf r) (placeOf r)
+
+-- a pair that was traced, with the count of its lifts, or the number and the place of its refusal, which counts none
+abbrev pub tracedOf : Traced → Verdict × ℕ
+tracedOf (traced.Lifts count) = (accepted, count)
+tracedOf (traced.Refused r) = (refused (numberOf r) (placeOf r), 0)

@@ -38,6 +38,12 @@ pub enum Outcome {
     Refused(Refusal),
 }
 
+// What a call answers that traces a pair: the count of its lifts.
+pub enum Traced {
+    Lifts(usize),
+    Refused(Refusal),
+}
+
 // A refusal as the operator sees it.
 pub struct Numbered {
     pub number: u16,
