@@ -1,11 +1,11 @@
 -- One more cell filled, copied or found equal.
 -- Assumes nothing.
-use Prim.Native.Nat.{ℕ, _+_, _<_}
+use Prim.Native.Nat.{ℕ, _+_, _<_, zero-le}
 use native.Mathlib.Omega.{arith}
-use mathlib.Core.Path.{refl, ap, _∙_}
+use mathlib.Core.Path.{_≡_, refl, sym, ap, _∙_}
 use mathlib.Core.List.{List}
-use lib.ListN.{length, getD, set}
-use lib.Seq.{getD-set-same, getD-set-other}
+use lib.ListN.{length, getD, set, replicate, length-replicate, getD-replicate}
+use lib.Seq.{ext-getD, getD-set-same, getD-set-other}
 use Rattle.tree.proofs.Scans.{by-equal}
 use Rattle.tree.proofs.Differences.{same-none}
 use Rattle.cells.specs.Cells.{Filled, Copied}
@@ -21,6 +21,12 @@ filled-more {before} {after} {i} {k} {x} room f = record {
   below = λ c h. getD-set-other after (i + k) c x 0 (λ e. absurd (omega arith)) ∙ f .below c h;
   above = λ c h. getD-set-other after (i + k) c x 0 (λ e. absurd (omega arith)) ∙ f .above c (omega arith);
 }
+
+-- where that is all there is, the buffer holds nothing else
+pub filled-all : (before : List ℕ) (n x : ℕ) (after : List ℕ) → length after ≡ n → Filled before 0 n x after → after ≡ replicate n x
+filled-all before n x after long f =
+    ext-getD 0 after (replicate n x) (long ∙ sym (length-replicate n x))
+    (λ i h. f .here i zero-le (omega arith) ∙ sym (getD-replicate n i x 0 (omega arith)))
 
 pub copied-none : (l from : List ℕ) (i j : ℕ) → Copied l i from j 0 l
 copied-none l from i j = record { here = same-none l from i j; below = λ c h. refl }

@@ -1,7 +1,10 @@
-// Stretches of cells: filling one, copying one from another buffer, and finding the first cell in which two differ.
+// Stretches of cells: filling one, copying one from another buffer, finding the first cell in which two differ, and the first that is too large.
 
+ghost use mathlib.Core.Path.{_≡_};
 ghost use Prim.Native.Nat.{_+_, _≤_};
-ghost use lib.ListN.{length};
+ghost use lib.Dec.{leb};
+ghost use lib.ListN.{length, getD};
+ghost use Rattle.tree.specs.Scan.{least};
 ghost use Rattle.cells.specs.Cells.{Filled, Copied, Agree};
 
 // Stores `value` in the `count` cells from `first` on.
@@ -36,6 +39,21 @@ pub fn agree(a: &[u16], at: usize, b: &[u16], start: usize, count: usize) -> usi
     let mut i = 0;
     while i < count {
         if a[at + i] != b[start + i] {
+            return i;
+        }
+        i += 1;
+    }
+    i
+}
+
+// The first cell that is `bound` or more; the number of cells where there is none.
+pub fn first_from(cells: &[u16], bound: usize) -> usize
+    ensures { λ r. ⌜ r ≡ least (λ i. leb bound (getD (now (cells .entry)) i 0)) (length (now (cells .entry))) ⌝ }
+{
+    let n = cells.len();
+    let mut i = 0;
+    while i < n {
+        if bound <= cells[i] as usize {
             return i;
         }
         i += 1;

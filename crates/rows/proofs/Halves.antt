@@ -19,7 +19,7 @@ use Rattle.tree.specs.Tour.{lesserLevel, sparse, tourTable}
 use Rattle.tree.specs.Sections.{Same}
 use Rattle.tree.specs.Ready.{Columns}
 use Rattle.tree.proofs.Scans.{by-order}
-use Rattle.tree.proofs.Differences.{same-none, store-either}
+use Rattle.tree.proofs.Differences.{same-none, same-store, store-either}
 use Rattle.tree.proofs.Cells.{tour-cell, sparse-cell}
 use Rattle.tree.proofs.Columns.{column-read}
 use Rattle.tree.proofs.Sparse.{sparse-zero, sparse-suc, sparse-end, sparse-from, sparse-to}
@@ -27,7 +27,7 @@ use Rattle.tree.proofs.Trees.{level-below}
 use Rattle.tree.proofs.Tours.{tour-length, visit-part}
 use Rattle.cells.specs.Cells.{Filled}
 use Rattle.rows.specs.Rows.{Levels, SparseRow}
-use Rattle.rows.proofs.Stores.{same-store, rows-fit}
+use Rattle.rows.proofs.Stores.{rows-fit}
 
 -- a store to the row leaves the levels
 level-keep : (s w : List ℕ) (q y p : ℕ) → q < 2 * length s → getD (set w q y) (2 * length s + p) 0 ≡ getD w (2 * length s + p) 0

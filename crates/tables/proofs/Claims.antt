@@ -1,7 +1,7 @@
 -- What is shown of the calls of this crate, in document 01's words, from their contracts alone.
 -- Assumes nothing.
 use Prim.Native.Nat.{ℕ, _≤_, _<_}
-use mathlib.Core.Path.{_≡_, refl, sym, ap, _∙_}
+use mathlib.Core.Path.{_≡_, sym, ap, _∙_}
 use mathlib.Core.Logic.{_≢_, _↔_}
 use mathlib.Core.List.{List, [], _∷_}
 use native.Mathlib.Nat.{zero-add}
@@ -9,7 +9,7 @@ use native.Mathlib.Omega.{arith}
 use borrow.Author.Tests.{eq-eqb}
 use lib.ListN.{length, getD}
 use Rattle.tree.specs.declared.Outcome.{Outcome}
-use Rattle.tree.specs.declared.Outcome.the-variants.{Accepted, Refused}
+use Rattle.tree.specs.declared.Outcome.the-variants.{Accepted}
 use Rattle.tree.specs.Tree.{Tree}
 use Rattle.tree.specs.Verdict.{accepted, refused, verdictOf}
 use Rattle.tree.specs.Tests.{verdict, limit, sheetTests, staleTable}
@@ -22,16 +22,11 @@ use Rattle.tree.specs.Tables.{Lent, own, endToEnd}
 use Rattle.tree.specs.Sections.{firstDifference}
 use Rattle.tree.proofs.Answers.{filled-own, filled-kept, stale-refused, stale-accepted}
 use Rattle.tree.proofs.Scans.{by-order}
-use Rattle.tree.proofs.Verdicts.{accepted-on}
+use Rattle.tree.proofs.Verdicts.{not-both, accepted-on, accepted-case}
 use Rattle.tree.proofs.Differences.{difference-same, difference-here, difference-all}
 use Rattle.tree.proofs.Claims.{accepted-exactly}
 use Rattle.tables.specs.Check.{CheckGives}
 use Rattle.tables.specs.Lend.{unfitOf, buildVerdict, BuildGives, LentGives}
-
--- an outcome whose verdict accepts is the case that says so
-accepted-case : (r : Outcome) → verdictOf r ≡ accepted → r ≡ Accepted
-accepted-case Accepted e = refl
-accepted-case (Refused why) e = let z : _≡_ {A = ℕ} 0 1 = cc in absurd (omega arith)
 
 -- ---- checking
 
@@ -93,14 +88,11 @@ module _ {t : Lent} {before after : List ℕ} {r : Outcome} (g : LentGives t 0 b
   stale-at : firstDifference (endToEnd t) (mine t) < length (mine t) → verdictOf r ≡ refused 8 (firstDifference (endToEnd t) (mine t))
   stale-at h = decided ∙ stale-refused t h
 
-  never : {place : ℕ} → verdictOf r ≡ accepted → verdictOf r ≡ refused 8 place → ⊥
-  never {place} e f = let both : accepted ≡ refused 8 place = sym e ∙ f in let z : _≡_ {A = ℕ} 0 1 = cc in omega arith
-
   -- "For an accepted sheet and buffers that fit, tables are called stale exactly if a cell differs from that sheet's own"
   pub stale-exactly : ((place : ℕ) × (verdictOf r ≡ refused 8 place)) ↔ ((i : ℕ) × (i < length (mine t)) × (getD (endToEnd t) i 0 ≢ getD (mine t) i 0))
   stale-exactly =
       let d = firstDifference (endToEnd t) (mine t) in (
-        λ stale. by-order (length (mine t)) d (λ h. absurd (never (fresh h) (stale .1))) (λ h. (d, h, difference-here (endToEnd t) (mine t) h)),
+        λ stale. by-order (length (mine t)) d (λ h. absurd (not-both (fresh h) (stale .1))) (λ h. (d, h, difference-here (endToEnd t) (mine t) h)),
         λ cell. by-order (length (mine t)) d
             (λ h. absurd (cell .2 (rw zero-add at (difference-all (endToEnd t) (mine t) h .cell (cell .0) (cell .1)))))
             (λ h. (d, stale-at h)),
@@ -111,7 +103,7 @@ module _ {t : Lent} {before after : List ℕ} {r : Outcome} (g : LentGives t 0 b
       → (place < length (mine t)) × (getD (endToEnd t) place 0 ≢ getD (mine t) place 0) × ((i : ℕ) → i < place → getD (endToEnd t) i 0 ≡ getD (mine t) i 0)
   stale-first place e =
       let d = firstDifference (endToEnd t) (mine t) in
-      by-order (length (mine t)) d (λ l. absurd (never (fresh l) e))
+      by-order (length (mine t)) d (λ l. absurd (not-both (fresh l) e))
       (λ l.
       let both : refused 8 d ≡ refused 8 place = sym (stale-at l) ∙ e in
       let same : d ≡ place = cc in
@@ -123,6 +115,6 @@ module _ {t : Lent} {before after : List ℕ} {r : Outcome} (g : LentGives t 0 b
   compare-accepts =
       let d = firstDifference (endToEnd t) (mine t) in (
         λ e i h. by-order (length (mine t)) d (λ l. rw zero-add at (difference-all (endToEnd t) (mine t) l .cell i h))
-            (λ l. absurd (never (ap verdictOf e) (stale-at l))),
+            (λ l. absurd (not-both (ap verdictOf e) (stale-at l))),
         λ same. by-order (length (mine t)) d (λ l. accepted-case r (fresh l)) (λ l. absurd (difference-here (endToEnd t) (mine t) l (same d l))),
       )

@@ -16,27 +16,28 @@ use Rattle.tree.specs.Tables.{Lent}
 use Rattle.tree.proofs.Answers.{same-verdict, accepted-fits, filled-own, filled-kept, work-accepted, work-zero, stale-later}
 use Rattle.tree.proofs.Verdicts.{accepted-on, refused-on}
 use Rattle.tree.proofs.Acceptance.{accepted-tree}
-use Rattle.tree.proofs.Fits.{all-fit}
+use Rattle.tree.proofs.Fits.{all-fit, unfit-further}
 use Rattle.tables.specs.Check.{Tested}
 use Rattle.tables.specs.Lend.{unfitOf, buildVerdict, BuildGives, lentVerdict, LentGives}
 use Rattle.tables.specs.Sections.{Fits, Built}
 
--- no buffer is named: each has its exact length
-record Exact (t : Lent) (work : List ℕ) : Type 0 where
-  label-cells : length (t .label) ≡ labelCells (length (t .parents))
-  tour-cells : length (t .tour) ≡ tourCells (length (t .parents))
-  lift-cells : length (t .lift) ≡ liftCells (length (t .parents))
-  work-cells : length work ≡ workCells (length (t .parents))
+-- no buffer is named: each has its exact length, and no further one is named
+pub record Exact (t : Lent) (work : List ℕ) (further : ℕ) : Type 0 where
+  pub label-cells : length (t .label) ≡ labelCells (length (t .parents))
+  pub tour-cells : length (t .tour) ≡ tourCells (length (t .parents))
+  pub lift-cells : length (t .lift) ≡ liftCells (length (t .parents))
+  pub work-cells : length work ≡ workCells (length (t .parents))
+  pub further-fits : further ≡ 0
 
-exact : (t : Lent) (work : List ℕ) (further : ℕ) → unfitOf t work further ≡ 0 → Exact t work
+pub exact : (t : Lent) (work : List ℕ) (further : ℕ) → unfitOf t work further ≡ 0 → Exact t work further
 exact t work further e =
     let n = length (t .parents) in
     let last = workFit n (length work) ∷ furtherFit further ∷ [] in
     let (label, rest) = all-fit (labelFit n (length (t .label))) (tourFit n (length (t .tour)) ∷ liftFit n (length (t .lift)) ∷ last) (λ q. absurd (omega arith)) e in
     let (tour, rest₂) = all-fit (tourFit n (length (t .tour))) (liftFit n (length (t .lift)) ∷ last) (λ q. absurd (omega arith)) rest in
     let (lift, rest₃) = all-fit (liftFit n (length (t .lift))) last (λ q. absurd (omega arith)) rest₂ in
-    let (work, _) = all-fit (workFit n (length work)) (furtherFit further ∷ []) (λ q. absurd (omega arith)) rest₃ in
-    record { label-cells = eqb-true _ _ label; tour-cells = eqb-true _ _ tour; lift-cells = eqb-true _ _ lift; work-cells = eqb-true _ _ work }
+    let (work, rest₄) = all-fit (workFit n (length work)) (furtherFit further ∷ []) (λ q. absurd (omega arith)) rest₃ in
+    record { label-cells = eqb-true _ _ label; tour-cells = eqb-true _ _ tour; lift-cells = eqb-true _ _ lift; work-cells = eqb-true _ _ work; further-fits = sym (unfit-further further) ∙ rest₄ }
 
 -- what a call has found of the lengths, of a sheet that is neither too small nor too large
 abbrev pub Found : Lent → List ℕ → ℕ → ℕ → Type 0

@@ -131,7 +131,7 @@ fn test_tree(parents: &[u16], work: &mut [u16]) -> Outcome
     ensures { λ r. ⌜ verdictOf r ≡ verdict (treeTests (now (parents .entry))) ⌝ }
 {
     let n = parents.len();
-    let off = scan::out_of_range(parents);
+    let off = cells::first_from(parents, n);
     if off < n {
         return Outcome::Refused(Refusal::ParentOutOfRange(off));
     }

@@ -4,7 +4,6 @@ ghost use mathlib.Core.Path.{_≡_};
 ghost use Prim.Native.Nat.{_≤_};
 ghost use lib.ListN.{length, replicate};
 ghost use Rattle.tree.specs.Tree.{nextRoot};
-ghost use Rattle.tree.specs.Tests.{parentOutOfRange};
 
 // Fills a buffer with zeros.
 pub(crate) fn clear(buffer: &mut [u16])
@@ -12,21 +11,6 @@ pub(crate) fn clear(buffer: &mut [u16])
 {
     let n = buffer.len();
     cells::fill(buffer, 0, n, 0);
-}
-
-// The lowest part whose entry is no part; the number of parts where there is none.
-pub(crate) fn out_of_range(parents: &[u16]) -> usize
-    ensures { λ r. ⌜ r ≡ parentOutOfRange (now (parents .entry)) .place ⌝ }
-{
-    let n = parents.len();
-    let mut v = 0;
-    while v < n {
-        if n <= parents[v] as usize {
-            return v;
-        }
-        v += 1;
-    }
-    v
 }
 
 // The lowest part from `first` on that names itself; the number of parts where there is none.

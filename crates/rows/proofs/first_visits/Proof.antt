@@ -9,9 +9,8 @@ use Rattle.tree.specs.Buffers.{visits}
 use Rattle.tree.specs.Tour.{tourTable}
 use Rattle.tree.specs.Sections.{Same}
 use Rattle.tree.proofs.Cells.{first-cell}
-use Rattle.tree.proofs.Differences.{same-none}
+use Rattle.tree.proofs.Differences.{same-none, same-store}
 use Rattle.tree.proofs.Tours.{tour-length}
-use Rattle.rows.proofs.Stores.{same-store}
 use Rattle.rows.proofs.Visited.{Node, node-read}
 use Rattle.rows.proofs.first_visits.Statement.{statement}
 use Rattle.rows.proofs.first_visits.Tie as tie

@@ -7,8 +7,7 @@ use mathlib.Core.Path.{_≡_}
 use lib.ListN.{length, length-set}
 use Rattle.tree.specs.Lifts.{liftTable}
 use Rattle.tree.specs.Sections.{Same}
-use Rattle.tree.proofs.Differences.{same-none}
-use Rattle.rows.proofs.Stores.{same-store}
+use Rattle.tree.proofs.Differences.{same-none, same-store}
 use Rattle.rows.proofs.Doubled.{Doubled, doubled}
 use Rattle.rows.proofs.next_lift.Statement.{statement}
 use Rattle.rows.proofs.next_lift.Tie as tie

@@ -8,9 +8,8 @@ use lib.ListN.{length, length-set}
 use Rattle.tree.specs.Buffers.{visits}
 use Rattle.tree.specs.Tour.{tourTable}
 use Rattle.tree.specs.Sections.{Same}
-use Rattle.tree.proofs.Differences.{same-none}
+use Rattle.tree.proofs.Differences.{same-none, same-store}
 use Rattle.rows.specs.Rows.{Levels}
-use Rattle.rows.proofs.Stores.{same-store}
 use Rattle.rows.proofs.Halves.{Pair, blocks, pair, levels-keep, row-end}
 use Rattle.rows.proofs.next_row.Statement.{statement}
 use Rattle.rows.proofs.next_row.Tie as tie

@@ -9,6 +9,7 @@ use lib.ListN.{length}
 use Rattle.tree.specs.Tree.{nextRoot, rootOf}
 use Rattle.tree.specs.Verdict.{refused}
 use Rattle.tree.specs.Tests.{parentOutOfRange}
+use Rattle.tree.proofs.Places.{out-of-range-place}
 use Rattle.tree.proofs.Roots.{root-of-next}
 use Rattle.tree.proofs.Answers.{refused-out-of-range, refused-no-root, refused-second-root, refused-cycle, accepted-tree-tests}
 use Rattle.tables.specs.Stamps.{OneRoot}
@@ -20,9 +21,13 @@ use Rattle.tables.proofs.test_tree.Tie as tie
 abbrev sheet : tie.Start → List ℕ
 sheet c = c .args .parents .now
 
+-- the place of its lowest entry that is no part
+off : (c : tie.After-first-from) → c .first-from .result ≡ parentOutOfRange (sheet (c .before .before .before)) .place
+off c = out-of-range-place (sheet (c .before .before .before)) _ (c .first-from .ensures)
+
 -- no entry is off it
 entries : (c : tie.Else1) → length (sheet (c .before .before .before .before)) ≤ parentOutOfRange (sheet (c .before .before .before .before)) .place
-entries c = rw (c .before .out-of-range .ensures) at (c .if1 .left)
+entries c = rw (off (c .before)) at (c .if1 .left)
 
 -- root is its lowest part that names itself
 root : (c : tie.After-next-root) → c .next-root .result ≡ rootOf (sheet (c .before .before .before .before .before))
@@ -41,12 +46,12 @@ none : (c : tie.Else3)
     ≤ nextRoot (sheet (c .before .before .before .before .before .before .before .before)) (suc (rootOf (sheet (c .before .before .before .before .before .before .before .before))))
 none c = rw (second (c .before)) at (c .if3 .left)
 
-out-of-range-requires : tie.Need-out-of-range-requires
-out-of-range-requires c κs = search needs
+first-from-requires : tie.Need-first-from-requires
+first-from-requires c κs = search needs
 
 returns : tie.Need-returns
 returns c =
-    let e = c .before .out-of-range .ensures in
+    let e = off (c .before) in
     ap (refused 4) e ∙ sym (refused-out-of-range _ (rw e at (c .if1 .taken)))
 
 next-root-requires : tie.Need-next-root-requires
@@ -95,7 +100,7 @@ pub test-tree-spec : {M : Type 1} → statement M
 test-tree-spec =
     tie.close
     (tie.spec
-    out-of-range-requires
+    first-from-requires
     returns
     next-root-requires
     returns-2

@@ -1,4 +1,4 @@
--- `tables::scan::out_of_range` meets its contract: the entries passed are all below n.
+-- `cells::first_from` meets its contract: the cells passed are all below the bound.
 -- Assumes nothing.
 use Prim.Native.Nat.{ℕ, _-_, _≤_, _<_}
 use native.Mathlib.Nat.{not-suc-le-zero}
@@ -6,15 +6,15 @@ use native.Mathlib.Omega.{arith}
 use borrow.Author.Count.{below-more}
 use borrow.Author.Needs.{needs}
 use lib.ListN.{length, getD}
-use Rattle.tree.proofs.Places.{out-of-range-place}
-use Rattle.tables.proofs.scan.out_of_range.Statement.{statement}
-use Rattle.tables.proofs.scan.out_of_range.Tie as tie
+use Rattle.tree.proofs.Places.{first-from}
+use Rattle.cells.proofs.first_from.Statement.{statement}
+use Rattle.cells.proofs.first_from.Tie as tie
 
 abbrev Inv-loop : tie.InvT-loop
-Inv-loop parents n v₀ v = (v ≤ length parents) × ((j : ℕ) → j < v → getD parents j 0 < length parents)
+Inv-loop cells bound n i₀ i = (i ≤ length cells) × ((j : ℕ) → j < i → getD cells j 0 < bound)
 
 abbrev μ-loop : tie.MeasureT-loop
-μ-loop parents n v₀ v = length parents - v
+μ-loop cells bound n i₀ i = length cells - i
 
 loop-holds : tie.Need-loop-holds Inv-loop μ-loop
 loop-holds c = (search needs, λ j h. absurd (not-suc-le-zero h))
@@ -26,13 +26,13 @@ shared-slice-read-if1 : tie.Need-shared-slice-read-if1 Inv-loop μ-loop
 shared-slice-read-if1 c = search needs
 
 cast-if1 : tie.Need-cast-if1 Inv-loop μ-loop
-cast-if1 c = omega (arith, c .shared-slice-known .given (c .before .before .loop .v))
+cast-if1 c = omega (arith, c .shared-slice-known .given (c .before .before .loop .i))
 
 returns : tie.Need-returns Inv-loop μ-loop
-returns c = out-of-range-place _ _ (omega arith) (c .before .before .before .loop .inv .1) (λ _. c .if1 .taken)
+returns c = first-from (c .before .before .before .before .args .cells .now) (c .before .before .before .before .args .bound) _ (c .before .before .before .loop .inv .0) (c .before .before .before .loop .inv .1) (λ _. c .if1 .taken)
 
-add-v : tie.Need-add-v Inv-loop μ-loop
-add-v c = search needs
+add-i : tie.Need-add-i Inv-loop μ-loop
+add-i c = search needs
 
 loop-less : tie.Need-loop-less Inv-loop μ-loop
 loop-less c = search needs
@@ -41,10 +41,10 @@ loop-again : tie.Need-loop-again Inv-loop μ-loop
 loop-again c = (search needs, below-more _ _ (c .before .before .before .loop .inv .1) (c .if1 .left))
 
 returns-2 : tie.Need-returns-2 Inv-loop μ-loop
-returns-2 c = out-of-range-place _ _ (c .before .loop .inv .0) (c .before .loop .inv .1) (λ h. absurd (omega arith))
+returns-2 c = first-from (c .before .before .args .cells .now) (c .before .before .args .bound) _ (c .before .loop .inv .0) (c .before .loop .inv .1) (λ h. absurd (omega arith))
 
-pub out-of-range-spec : {M : Type 1} → statement M
-out-of-range-spec =
+pub first-from-spec : {M : Type 1} → statement M
+first-from-spec =
     tie.close
     (tie.spec
     Inv-loop
@@ -54,7 +54,7 @@ out-of-range-spec =
     shared-slice-read-if1
     cast-if1
     returns
-    add-v
+    add-i
     loop-less
     loop-again
     returns-2)
