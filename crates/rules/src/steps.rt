@@ -1,0 +1,75 @@
+// The steps of the label rule, as 000 numbers them, by xor, shifts and masks.
+
+ghost use mathlib.Core.Path.{_≡_};
+ghost use Prim.Native.Nat.{_<_, max};
+ghost use lib.ListN.{length};
+ghost use Rattle.bits.specs.Bits.{IsBelow};
+ghost use Rattle.tree.specs.Labels.{labelTable};
+ghost use Rattle.tree.specs.Tables.{own};
+ghost use Rattle.tree.specs.Routes.{nearer, step1, step2, step3, labelAbove};
+ghost use Rattle.tree.specs.Nodes.{Pair};
+ghost use Rattle.rules.specs.Steps.{Toward};
+
+// Of two parts the one of lesser LEVEL, x at equal LEVELs.
+pub(crate) fn nearer(parents: &[u16], label: &[u16], x: usize, y: usize) -> usize
+    requires { ⌜ Pair (now parents) x y × (now label ≡ labelTable (now parents)) ⌝ }
+    ensures { λ r. ⌜ IsBelow (nearer (own (now (parents .entry))) x y) (length (now (parents .entry))) r ⌝ }
+{
+    let n = parents.len();
+    if label[2 * n + x] <= label[2 * n + y] {
+        return x;
+    }
+    y
+}
+
+// Step 1: the greatest of the places of the lowest ones of both INLABELs and of the highest bit in which they differ.
+pub(crate) fn step1(ix: u16, iy: u16) -> u16
+    ensures { λ r. ⌜ IsBelow (step1 ix iy) 16 r ⌝ }
+{
+    let lowest = larger(
+        bits::log2(bits::lowest_one(ix)),
+        bits::log2(bits::lowest_one(iy)),
+    );
+    larger(lowest, bits::log2(bits::xor(ix, iy)))
+}
+
+// The larger of two numbers.
+fn larger(a: u16, b: u16) -> u16
+    ensures { λ r. ⌜ r ≡ max a b ⌝ }
+{
+    if a < b {
+        return b;
+    }
+    a
+}
+
+// Step 2: the place of the lowest one that both ASCENDANTs have at or above place i.
+pub(crate) fn step2(i: u16, ax: u16, ay: u16) -> u16
+    ensures { λ r. ⌜ IsBelow (step2 i ax ay) 16 r ⌝ }
+{
+    bits::log2(bits::lowest_one(bits::clear_below(ax & ay, i)))
+}
+
+// The INLABEL with the bits of ix above place j, a one there and zeros below it.
+pub(crate) fn label_above(j: u16, ix: u16) -> u16
+    requires { ⌜ (j < 16) × (labelAbove j ix < 65536) ⌝ }
+    ensures { λ r. ⌜ r ≡ labelAbove j ix ⌝ }
+{
+    bits::clear_below(ix, j + 1) + (1 << j)
+}
+
+// Step 3: the lowest part at or above v on the path of INLABEL iz, whose lowest one is at place j.
+pub(crate) fn step3(parents: &[u16], label: &[u16], j: u16, iz: u16, v: usize) -> usize
+    requires { ⌜ Toward (now parents) v j iz × (now label ≡ labelTable (now parents)) ⌝ }
+    ensures { λ r. ⌜ IsBelow (step3 (own (now (parents .entry))) j iz v) (length (now (parents .entry))) r ⌝ }
+{
+    let n = parents.len();
+    let iv = label[3 * n + v];
+    if iv == iz {
+        return v;
+    }
+    let k = bits::log2(bits::bits_below(label[4 * n + v], j));
+    let below = label_above(k, iv) as usize;
+    let head = label[5 * n + below - 1] as usize;
+    parents[head] as usize
+}
