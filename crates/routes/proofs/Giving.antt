@@ -1,0 +1,175 @@
+-- What each call gives, from its tests and, where they accept, from the answers that were stored.
+-- Assumes nothing.
+use Prim.Native.Nat.{ℕ, _+_, _*_, _<_}
+use native.Mathlib.Omega.{arith}
+use mathlib.Core.Path.{_≡_, sym, ap, _∙_, subst}
+use mathlib.Core.List.{List, [], _∷_}
+use lib.ListN.{length, getD, set, length-set}
+use lib.Seq.{ext-getD, getD-set-same}
+use Rattle.tree.specs.declared.Refusal.{Refusal}
+use Rattle.tree.specs.declared.Outcome.{Outcome}
+use Rattle.tree.specs.declared.Outcome.the-variants.{Accepted, Refused}
+use Rattle.tree.specs.declared.Traced.the-variants as traced
+use Rattle.tree.specs.Verdict.{accepted, refused, numberOf, placeOf, verdictOf}
+use Rattle.tree.specs.Tree.{Tree}
+use Rattle.tree.specs.Lca.{Lca, lca}
+use Rattle.tree.specs.Tables.{Lent, own}
+use Rattle.tree.specs.Routes.{byLabels}
+use Rattle.tree.specs.Sharing.{firstInPreorder, lastInPreorder}
+use Rattle.tree.specs.Trail.{trail, byLifts, lifts, trailBuffer}
+use Rattle.tree.specs.Nodes.{Pair, Listed}
+use Rattle.tree.proofs.Rows.{length-tabulate, cell-tabulate}
+use Rattle.tree.proofs.Verdicts.{not-both}
+use Rattle.tree.proofs.Lcas.{lca-found, lca-only}
+use Rattle.tree.proofs.Lists.{ends-listed, ends-lca}
+use Rattle.tree.proofs.Answers.{filled-own, filled-kept}
+use Rattle.tree.proofs.Questions.{question-parts}
+use Rattle.tree.proofs.ByLabels.{labels-lca}
+use Rattle.tree.proofs.ByTour.{tour-lca}
+use Rattle.tree.proofs.ByLifts.{lifts-lca, lifts-count}
+use Rattle.routes.specs.declared.Route.{Route}
+use Rattle.routes.specs.declared.Route.the-variants.{Labels, Tour, Lifts}
+use Rattle.routes.specs.Pairs.{leftOf, rightOf, pairs, eachPair, ruleOf}
+use Rattle.routes.specs.Answers.{Admitted, Asked, pairsUnfit, pairsVerdict, PairsGive, trailUnfit, trailVerdict, TrailGives, listUnfit, listVerdict, ListGives}
+use Rattle.routes.proofs.Asking.{answerable, owned-is}
+
+-- ---- a question of pairs
+
+-- each rule gives the carrier of two parts
+pub rule-lca : (route : Route) {s : List ℕ} → Tree s → (x y : ℕ) → x < length s → y < length s → Lca s (x ∷ y ∷ []) (ruleOf route (own s) x y)
+rule-lca Labels t = labels-lca t
+rule-lca Tour t = tour-lca t
+rule-lca Lifts t = lifts-lca t
+
+pub each-pair-length : (f : ℕ → ℕ → ℕ) (question : List ℕ) → length (eachPair f question) ≡ pairs question
+unfolding eachPair
+each-pair-length f question = length-tabulate _ (pairs question)
+
+pub each-pair-cell : (f : ℕ → ℕ → ℕ) (question : List ℕ) (i : ℕ) → i < pairs question → getD (eachPair f question) i 0 ≡ f (leftOf question i) (rightOf question i)
+unfolding eachPair
+each-pair-cell f question i h = cell-tabulate _ (pairs question) i h
+
+-- a pair of a question is two parts
+pub question-pair : {s question : List ℕ} → Listed s question → (i : ℕ) → 2 * i + 1 < length question → Pair s (leftOf question i) (rightOf question i)
+question-pair listed i h = record { small = listed .small; left = listed .part _ (omega arith); right = listed .part _ h }
+
+module _ (route : Route) (a : Asked) {r : Outcome} {after : List ℕ} (given : Admitted (a .lent) (a .work) (a .question) (pairsUnfit a) r after) where
+  -- a refused call leaves the answer as it was
+  pub pairs-refused : {why : Refusal} → r ≡ Refused why → PairsGive (ruleOf route) a r after (a .answer)
+  pairs-refused {why} e =
+      let no : pairsVerdict a ≡ refused (numberOf why) (placeOf why) = sym (given .outcome) ∙ ap verdictOf e in
+      record {
+        outcome = given .outcome;
+        work = given .work;
+        answer = filled-kept (pairsVerdict a) _ _ _ _ no;
+        carriers = λ yes. absurd (not-both yes no);
+      }
+
+  -- an accepted one gives each pair's
+  pub pairs-answered : {answer′ : List ℕ} → r ≡ Accepted → answer′ ≡ eachPair (ruleOf route (own (a .lent .parents))) (a .question)
+      → PairsGive (ruleOf route) a r after answer′
+  pairs-answered {answer′} e stored =
+      let yes : pairsVerdict a ≡ accepted = sym (given .outcome) ∙ ap verdictOf e in
+      let ready = answerable (a .lent) (a .work) (a .question) (pairsUnfit a) yes in
+      let same = owned-is (a .lent) (pairsUnfit a) (ready .owned) in
+      let s = a .lent .parents in
+      record {
+        outcome = given .outcome;
+        work = given .work;
+        answer = stored ∙ ap (λ (t : Lent). eachPair (ruleOf route t) (a .question)) (sym same) ∙ filled-own (pairsVerdict a) _ _ yes;
+        carriers = λ _ i h.
+            let pair = question-pair (ready .listed) i (omega arith) in
+            let is : getD answer′ i 0 ≡ ruleOf route (own s) (leftOf (a .question) i) (rightOf (a .question) i) =
+            ap (λ (l : List ℕ). getD l i 0) stored ∙ each-pair-cell (ruleOf route (own s)) (a .question) i h in
+            subst (Lca s (leftOf (a .question) i ∷ rightOf (a .question) i ∷ [])) (sym is)
+            (rule-lca route (pair .small .tree) _ _ (pair .left) (pair .right));
+      }
+
+-- ---- a trail
+
+module _ (a : Asked) (rows : List ℕ) {r : Outcome} {after : List ℕ} (given : Admitted (a .lent) (a .work) (a .question) (trailUnfit a rows) r after) where
+  -- a refused call leaves the answer and the trail as they were
+  pub trail-refused : {why : Refusal} → r ≡ Refused why → TrailGives a rows (traced.Refused why) after (a .answer) rows
+  trail-refused {why} e =
+      let same : verdictOf (Refused why) ≡ trailVerdict a rows = sym (ap verdictOf e) ∙ given .outcome in
+      record {
+        outcome = same;
+        count = filled-kept (trailVerdict a rows) _ _ _ _ (sym same);
+        work = given .work;
+        answer = filled-kept (trailVerdict a rows) _ _ _ _ (sym same);
+        trail = filled-kept (trailVerdict a rows) _ _ _ _ (sym same);
+        carrier = λ yes. absurd (not-both yes (sym same));
+        ones = λ yes. absurd (not-both yes (sym same));
+      }
+
+  -- an accepted one gives the trail of the question's pair
+  pub trail-answered : {count : ℕ} {answer′ rows′ : List ℕ} → r ≡ Accepted → count ≡ lifts (own (a .lent .parents)) (leftOf (a .question) 0) (rightOf (a .question) 0)
+      → answer′ ≡ byLifts (own (a .lent .parents)) (leftOf (a .question) 0) (rightOf (a .question) 0) ∷ []
+      → rows′ ≡ trailBuffer (trail (own (a .lent .parents)) (leftOf (a .question) 0) (rightOf (a .question) 0))
+      → length (a .question) ≡ 2
+      → TrailGives a rows (traced.Lifts count) after answer′ rows′
+  trail-answered {count} {answer′} {rows′} e lifted answered stored two =
+      let s = a .lent .parents in
+      let u = leftOf (a .question) 0 in
+      let w = rightOf (a .question) 0 in
+      let same : verdictOf Accepted ≡ trailVerdict a rows = sym (ap verdictOf e) ∙ given .outcome in
+      let ready = answerable (a .lent) (a .work) (a .question) (trailUnfit a rows) (sym same) in
+      let mine = owned-is (a .lent) (trailUnfit a rows) (ready .owned) in
+      let pair = question-pair (ready .listed) 0 (omega arith) in
+      let is : getD answer′ 0 0 ≡ byLifts (own s) u w = ap (λ (l : List ℕ). getD l 0 0) answered in
+      record {
+        outcome = same;
+        count = lifted ∙ ap (λ (t : Lent). lifts t u w) (sym mine) ∙ filled-own (trailVerdict a rows) _ _ (sym same);
+        work = given .work;
+        answer = answered ∙ ap (λ (t : Lent). byLifts t u w ∷ []) (sym mine) ∙ filled-own (trailVerdict a rows) _ _ (sym same);
+        trail = stored ∙ ap (λ (t : Lent). trailBuffer (trail t u w)) (sym mine) ∙ filled-own (trailVerdict a rows) _ _ (sym same);
+        carrier = λ _. subst (Lca s (u ∷ w ∷ [])) (sym is) (lifts-lca (pair .small .tree) u w (pair .left) (pair .right));
+        ones = λ _. lifted ∙ lifts-count (pair .small .tree) u w (pair .left) (pair .right);
+      }
+
+-- ---- a list
+
+-- the one cell of a buffer, stored
+pub one-stored : (l : List ℕ) (x : ℕ) → length l ≡ 1 → set l 0 x ≡ x ∷ []
+one-stored l x e = ext-getD 0 (set l 0 x) (x ∷ []) (simp length-set e)
+    (λ i h. let long : length (set l 0 x) ≡ 1 = simp length-set e in let first : i ≡ 0 = omega arith in rw first (getD-set-same l 0 x 0 (omega arith)))
+
+-- the first and the last in preorder are two parts
+pub ends-pair : {s question : List ℕ} → Listed s question → Pair s (firstInPreorder s question) (lastInPreorder s question)
+ends-pair {s} {question} listed =
+    let parts = question-parts s question (listed .part) in
+    let (first, last) = ends-listed s question (listed .some) in
+    record { small = listed .small; left = parts _ first; right = parts _ last }
+
+-- .. and by labels they give the list's carrier
+pub ends-carrier : {s question : List ℕ} → Listed s question → byLabels (own s) (firstInPreorder s question) (lastInPreorder s question) ≡ lca s question
+ends-carrier {s} {question} listed =
+    let t = listed .small .tree in
+    let parts = question-parts s question (listed .part) in
+    let pair = ends-pair listed in
+    lca-only t question _ (listed .some) parts (ends-lca t question _ (listed .some) parts (labels-lca t _ _ (pair .left) (pair .right)))
+
+module _ (a : Asked) {r : Outcome} {after : List ℕ} (given : Admitted (a .lent) (a .work) (a .question) (listUnfit a) r after) where
+  pub list-refused : {why : Refusal} → r ≡ Refused why → ListGives a r after (a .answer)
+  list-refused {why} e =
+      let no : listVerdict a ≡ refused (numberOf why) (placeOf why) = sym (given .outcome) ∙ ap verdictOf e in
+      record {
+        outcome = given .outcome;
+        work = given .work;
+        answer = filled-kept (listVerdict a) _ _ _ _ no;
+        carrier = λ yes. absurd (not-both yes no);
+      }
+
+  pub list-answered : {answer′ : List ℕ} → r ≡ Accepted → answer′ ≡ lca (a .lent .parents) (a .question) ∷ [] → ListGives a r after answer′
+  list-answered {answer′} e stored =
+      let s = a .lent .parents in
+      let yes : listVerdict a ≡ accepted = sym (given .outcome) ∙ ap verdictOf e in
+      let listed = answerable (a .lent) (a .work) (a .question) (listUnfit a) yes .listed in
+      let is : getD answer′ 0 0 ≡ lca s (a .question) = ap (λ (l : List ℕ). getD l 0 0) stored in
+      record {
+        outcome = given .outcome;
+        work = given .work;
+        answer = stored ∙ filled-own (listVerdict a) _ _ yes;
+        carrier = λ _. subst (Lca s (a .question)) (sym is)
+            (lca-found (listed .small .tree) (a .question) (listed .some) (question-parts s (a .question) (listed .part)));
+      }

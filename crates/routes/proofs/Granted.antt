@@ -1,0 +1,90 @@
+-- What the calls give that are lent an accepted sheet's own tables and buffers that fit, and asked of its parts: none is refused, and each answer
+-- is its definition's.
+-- Assumes nothing.
+use Prim.Native.Nat.{ℕ, _%_}
+use native.Mathlib.Nat.{le-of-eq}
+use mathlib.Core.Path.{_≡_, refl, sym, ap, _∙_, subst}
+use mathlib.Core.List.{List, [], _∷_}
+use borrow.Author.Tests.{eq-eqb}
+use lib.ListN.{length}
+use Rattle.tree.specs.declared.Outcome.{Outcome}
+use Rattle.tree.specs.declared.Outcome.the-variants.{Accepted}
+use Rattle.tree.specs.declared.Traced.{Traced}
+use Rattle.tree.specs.declared.Traced.the-variants.{Lifts, Refused}
+use Rattle.tree.specs.Verdict.{accepted, tracedOf}
+use Rattle.tree.specs.Tests.{verdict, sheetTests, lentTests, staleTable, questionTests}
+use Rattle.tree.specs.Tests as tests
+use Rattle.tree.specs.Buffers.{workCells, trailCells}
+use Rattle.tree.specs.Lca.{lca}
+use Rattle.tree.specs.Tables.{Lent, own}
+use Rattle.tree.specs.Trail.{trail, byLifts, lifts, trailBuffer}
+use Rattle.tree.proofs.Verdicts.{not-both, accepted-on, accepted-case}
+use Rattle.tree.proofs.Answers.{stale-accepted, filled-own}
+use Rattle.tree.proofs.Fits.{unfit-later, unfit-last, unfit-further}
+use Rattle.tree.proofs.Differences.{difference-none}
+use Rattle.tree.proofs.Acceptance.{accepted-tree}
+use Rattle.tree.proofs.Questions.{parts-accepted}
+use Rattle.tree.proofs.Claims.{own-tables-fit}
+use Rattle.tables.specs.Lend.{unfitOf}
+use Rattle.routes.specs.Pairs.{pairs, eachPair}
+use Rattle.routes.specs.Answers.{askedVerdict, Asked, PairsGive, TrailGives, ListGives}
+use Rattle.routes.specs.Lends.{Some, Lends}
+
+-- what a call is lent, written out
+abbrev lending : List ℕ → List ℕ → Asked → Asked
+lending s question a = record { lent = own s; work = a .work; question = question; answer = a .answer }
+
+lends-is : {s question : List ℕ} {cells : ℕ} (a : Asked) → Lends s question cells a → a ≡ lending s question a
+lends-is {s} {question} a l =
+    ap (λ (t : Lent). record { lent = t; work = a .work; question = a .question; answer = a .answer }) (l .tables)
+    ∙ ap (λ (q : List ℕ). record { lent = own s; work = a .work; question = q; answer = a .answer }) (l .asks)
+
+-- a trail's answer that counts lifts is the case that says so
+lifts-case : (r : Traced) (count : ℕ) → tracedOf r .0 ≡ accepted → tracedOf r .1 ≡ count → r ≡ Lifts count
+lifts-case (Lifts n) count e c = ap Lifts c
+lifts-case (Refused why) count e c = absurd (not-both e refl)
+
+module _ (s : List ℕ) (accepts : tests.Accepted s) where
+  -- no buffer does not fit
+  own-fits : (work : List ℕ) (further : ℕ) → length work ≡ workCells (length s) → further ≡ 0 → unfitOf (own s) work further ≡ 0
+  own-fits work further room fits =
+      let (label, tour, lift) = own-tables-fit s accepts in
+      unfit-later _ _ (eq-eqb _ _ label) ∙ unfit-later _ _ (eq-eqb _ _ tour) ∙ unfit-later _ _ (eq-eqb _ _ lift)
+      ∙ unfit-later _ _ (eq-eqb _ _ room) ∙ unfit-further further ∙ fits
+
+  -- so that a question of its parts is accepted
+  granted : (work question : List ℕ) (further : ℕ) → length work ≡ workCells (length s) → further ≡ 0 → Some s question
+      → askedVerdict (own s) work question further ≡ accepted
+  granted work question further room fits some =
+      let buffer = unfitOf (own s) work further in
+      let sheet : verdict (sheetTests s buffer) ≡ accepted = ap (λ (b : ℕ). verdict (sheetTests s b)) (own-fits work further room fits) ∙ accepts in
+      let fresh = stale-accepted (own s) (le-of-eq (sym (difference-none _ _ (record { cell = λ x h. refl })))) in
+      accepted-on (lentTests (own s) buffer) (questionTests s question) (accepted-on (sheetTests s buffer) (staleTable (own s) ∷ []) sheet ∙ fresh)
+      ∙ parts-accepted s question (accepted-tree s accepts .0) (some .listed) (some .parts)
+
+  -- pairs by a rule
+  pub pairs-granted : {rule : Lent → ℕ → ℕ → ℕ} {question : List ℕ} {a : Asked} {r : Outcome} {work′ answer′ : List ℕ} → Some s question → length question % 2 ≡ 0
+      → Lends s question (pairs question) a → PairsGive rule a r work′ answer′ → (r ≡ Accepted) × (answer′ ≡ eachPair (rule (own s)) question)
+  pairs-granted {rule} {question} {a} {r} {work′} {answer′} some even l given =
+      let g = subst (λ (b : Asked). PairsGive rule b r work′ answer′) (lends-is a l) given in
+      let fits = unfit-later _ _ (eq-eqb _ _ even) ∙ unfit-last _ (eq-eqb _ _ (l .answer-fits)) in
+      let yes = granted (a .work) question _ (l .work-fits) fits some in
+      (accepted-case r (g .outcome ∙ yes), g .answer ∙ sym (filled-own _ _ _ yes))
+
+  -- a list
+  pub list-granted : {question : List ℕ} {a : Asked} {r : Outcome} {work′ answer′ : List ℕ} → Some s question → Lends s question 1 a
+      → ListGives a r work′ answer′ → (r ≡ Accepted) × (answer′ ≡ lca s question ∷ [])
+  list-granted {question} {a} {r} {work′} {answer′} some l given =
+      let g = subst (λ (b : Asked). ListGives b r work′ answer′) (lends-is a l) given in
+      let yes = granted (a .work) question _ (l .work-fits) (unfit-last _ (eq-eqb _ _ (l .answer-fits))) some in
+      (accepted-case r (g .outcome ∙ yes), g .answer ∙ sym (filled-own _ _ _ yes))
+
+  -- a trail
+  pub trail-granted : {x y : ℕ} {a : Asked} {rows : List ℕ} {r : Traced} {work′ answer′ rows′ : List ℕ} → Some s (x ∷ y ∷ []) → Lends s (x ∷ y ∷ []) 1 a
+      → length rows ≡ trailCells → TrailGives a rows r work′ answer′ rows′
+      → (r ≡ Lifts (lifts (own s) x y)) × (answer′ ≡ byLifts (own s) x y ∷ []) × (rows′ ≡ trailBuffer (trail (own s) x y))
+  trail-granted {x} {y} {a} {rows} {r} {work′} {answer′} {rows′} some l whole given =
+      let g = subst (λ (b : Asked). TrailGives b rows r work′ answer′ rows′) (lends-is a l) given in
+      let fits = unfit-later _ _ refl ∙ unfit-later _ _ (eq-eqb _ _ (l .answer-fits)) ∙ unfit-last _ (eq-eqb _ _ whole) in
+      let yes = granted (a .work) (x ∷ y ∷ []) _ (l .work-fits) fits some in
+      (lifts-case r _ (g .outcome ∙ yes) (g .count ∙ sym (filled-own _ _ _ yes)), g .answer ∙ sym (filled-own _ _ _ yes), g .trail ∙ sym (filled-own _ _ _ yes))
