@@ -1,19 +1,22 @@
 #!/usr/bin/env python3
-"""A plain model of document 01's tests 1 to 8 and of its three tables, written apart from the library: what `known` must print.
+"""A plain model of document 01's tests, of its three tables and of its answers, written apart from the library: what `known` must print.
 
     python3 tools/known.py | diff - crates/known/stdout
 
 It takes each definition as it stands, climbs part by part, scans block by block and shares nothing with crates/. It reads the small sheets
 from crates/known/stdin and makes the large ones. Of the tables of the large ones it says only what follows from the definitions: a sheet's own
-tables are accepted, and a changed cell is stale at its place.
+tables are accepted, and a changed cell is stale at its place. An answer is the carrier, by whatever route it is asked: no route's rule is here but
+that of lifts, for its trail.
 """
 import os
 import re
 
 LIMIT = 16384
 NO_CELL = 65535
-NUMBERS = 80
+NUMBERS = 640
 ROOM = [192, 480, 192, 128]
+ROOM_OF_ANSWER = 256
+ROOM_OF_TRAIL = [2, 65]
 
 
 # The tests.
@@ -48,14 +51,14 @@ def misfit(lent, wanted):
     return None
 
 
-def refusal(parents, lent):
-    """The number and place of the first of tests 1 to 7 that fails, or None."""
+def refusal(parents, lent, further=None):
+    """The number and place of the first of tests 1 to 7 that fails, or None; further is the lowest of buffers 5 to 7 that does not fit, or None."""
     n = len(parents)
     if n == 0:
         return 1, 0
     if n > LIMIT:
         return 2, 0
-    buffer = misfit(lent, exact(n))
+    buffer = misfit(lent, exact(n)) or further
     if buffer is not None:
         return 3, buffer
     for v, entry in enumerate(parents):
@@ -78,14 +81,38 @@ def refusal(parents, lent):
     return None
 
 
-def stale(parents, tables, lent):
-    """The same of tests 1 to 8, with the lent tables end to end."""
-    why = refusal(parents, lent)
-    if why is not None:
+def stale(parents, tables, lent, further=None):
+    """The same of tests 1 to 8, with the lent tables end to end, or None for tables that are the sheet's own."""
+    why = refusal(parents, lent, further)
+    if why is not None or tables is None:
         return why
     for place, (cell, own) in enumerate(zip(tables, sum(own_tables(parents), []))):
         if cell != own:
             return 8, place
+    return None
+
+
+def unfit(kind, question, answer, trail):
+    """The lowest of question, answer and trail, buffers 5 to 7, that has not its exact length, by their cells, or None."""
+    if kind == "m":
+        fits = {6: answer == 1}
+    elif kind == "r":
+        fits = {5: question == 2, 6: answer == 1, 7: trail == 64}
+    else:
+        fits = {5: question % 2 == 0, 6: 2 * answer == question}
+    return next((buffer for buffer in sorted(fits) if not fits[buffer]), None)
+
+
+def asked(parents, tables, lent, further, question):
+    """The same of tests 1 to 10. Test 11 is never met: the root carries every part."""
+    why = stale(parents, tables, lent, further)
+    if why is not None:
+        return why
+    if not question:
+        return 9, 0
+    for position, part in enumerate(question):
+        if part >= len(parents):
+            return 10, position
     return None
 
 
@@ -175,6 +202,51 @@ def lift_table(parents):
     return [climb(parents, v, 2 ** k) for k in range(log(len(parents)) + 1) for v in range(len(parents))]
 
 
+# The answers.
+
+def carrier(parents, parts):
+    """The first part on the climb of one of them that carries all of them."""
+    above = [set(carriers(parents, v)) for v in parts]
+    return next(c for c in carriers(parents, parts[0]) if all(c in found for found in above))
+
+
+def level_of(parents, v):
+    """The number of steps to the root."""
+    return len(carriers(parents, v)) - 1
+
+
+def ones(m):
+    """The count of one bits."""
+    return bin(m).count("1")
+
+
+def trail(parents, x, y):
+    """The rows of a pair's trail: each raise, x's side and then y's side after it."""
+    levels = [level_of(parents, x), level_of(parents, y)]
+    common = carrier(parents, [x, y])
+    powers = [2 ** k for k in reversed(range(log(len(parents)) + 1))]
+    rows = []
+    for power in powers:
+        apart = level_of(parents, x) - level_of(parents, y)
+        if apart >= power:
+            x = climb(parents, x, power)
+            rows.append((x, y))
+        elif -apart >= power:
+            y = climb(parents, y, power)
+            rows.append((x, y))
+    if x != y:
+        for power in powers:
+            if climb(parents, x, power) != climb(parents, y, power):
+                x, y = climb(parents, x, power), climb(parents, y, power)
+                rows.append((x, y))
+        x, y = parents[x], parents[y]
+        rows.append((x, y))
+    down = min(levels) - level_of(parents, common)
+    assert x == y == common
+    assert len(rows) == ones(abs(levels[0] - levels[1])) + (ones(down - 1) + 1 if down > 0 else 0)
+    return rows
+
+
 # The lines.
 
 def listed(numbers):
@@ -226,6 +298,56 @@ def show_sevens(parents, lent):
     print(f"{entries(parents)} with {listed(lent)}, sevens{verdict(stale(parents, [7] * sum(lent[:3]), lent))}")
 
 
+def answered(name, why, answer):
+    """A line of one call, up to its answer."""
+    return f"  {name}{verdict(why)}, answer {listed(answer) if why is None else 'kept'}"
+
+
+def show_pairs(parents, why, question):
+    """The lines of a question of pairs, one for each route."""
+    pairs = zip(question[::2], question[1::2])
+    answer = [] if why is not None else [carrier(parents, pair) for pair in pairs]
+    for route in ["labels", "tour", "lifts"]:
+        print(answered(route, why, answer))
+
+
+def show_trail(parents, why, question):
+    """The line of a trail."""
+    if why is not None:
+        print(f"{answered('trail', why, [])}, trail kept")
+        return
+    rows = trail(parents, *question)
+    cells = [part for row in rows for part in row]
+    line = answered("trail", why, [carrier(parents, question)])
+    print(f"{line}, lifts {len(rows)}, rows {listed(cells) or 'nothing'}, then {64 - len(cells)} times {NO_CELL}")
+
+
+def show_list(parents, why, question):
+    """The line of a list."""
+    print(answered("list", why, [] if why is not None else [carrier(parents, question)]))
+
+
+SHOW = {"p": show_pairs, "r": show_trail, "m": show_list}
+
+
+def show_asked(kind, numbers, lent):
+    """Lines of the kinds 'p', 'r' and 'm'."""
+    answer, room, count, changes = numbers[:4]
+    rest = numbers[4:]
+    assert count + changes <= len(rest)
+    question, places, parents = rest[:count], rest[count:count + changes], rest[count + changes:]
+    tables = filled(parents, lent)
+    for place in places:
+        tables[place] = (tables[place] + 1) % 65536
+    damaged = f", damaged at {listed(places)}" if places else ""
+    print(f"{entries(parents)} with {listed(lent + [answer, room])}{damaged}, asked {listed(question) or 'nothing'}")
+    if kind == "r":
+        assert answer <= ROOM_OF_TRAIL[0] and room <= ROOM_OF_TRAIL[1]
+    else:
+        assert answer <= ROOM_OF_ANSWER
+    SHOW[kind](parents, asked(parents, tables, lent, unfit(kind, count, answer, room), question), question)
+
+
 def show_line(kind, numbers):
     """The lines that one line of stdin gives."""
     if kind == "w":
@@ -244,6 +366,8 @@ def show_line(kind, numbers):
         show_other(rest[:len(rest) // 2], rest[len(rest) // 2:], lent)
     elif kind == "c":
         show_sevens(rest, lent)
+    elif kind in SHOW:
+        show_asked(kind, rest, lent)
 
 
 # The large sheets.
@@ -254,13 +378,26 @@ def show(name, parents, cells=None):
     print(f"{name}{verdict(refusal(parents, [None, None, None, work]))}")
 
 
+def show_answers(parents, lent):
+    """The lines of the questions to a large sheet and its own tables, or to one that is too large."""
+    questions = [
+        ("p", [0, 16383, 16383, 16383, 16382, 16383, 12345, 6789, 4095, 4096, 8191, 8192, 7586, 11500, 15297, 9876, 12290, 11371]),
+        ("r", [12290, 11371]),
+        ("r", [16383, 0]),
+        ("m", [13885, 11371, 10066, 12290]),
+    ]
+    for kind, question in questions:
+        SHOW[kind](parents, asked(parents, None, lent, None, question), question)
+
+
 def show_tables(name, parents):
-    """The lines of a large sheet whose tables are built and compared, as they are and with two cells changed."""
+    """The lines of a large sheet whose tables are built, compared, asked, and compared with two cells changed."""
     lent = exact(len(parents))
     why = refusal(parents, lent)
     assert why is None
     print(f"{name}, tables{verdict(why)}, tables filled")
     print(f"  compared{verdict(None)}")
+    show_answers(parents, lent)
     print(f"  last cell changed{verdict((8, sum(lent[:3]) - 1))}")
     print(f"  first cell changed too{verdict((8, 0))}")
 
@@ -301,6 +438,7 @@ def main():
     large = verdict(refusal([0] * (LIMIT + 1), exact(1)))
     print(f"16385 entries, tables{large}, tables kept")
     print(f"16385 entries, compared{large}")
+    show_answers([0] * (LIMIT + 1), exact(1))
     show_tables("star of 16384, root 0", star)
     show_tables("chain of 16384, root 0", down)
     show_tables("tree of 16384 of no order", [0] + [(40503 * v + 12829) % 65536 % v for v in range(1, LIMIT)])

@@ -1,10 +1,12 @@
-// Sheets of 16,384 parts and one more, made by loops, and the tables of three of them.
+// Sheets of 16,384 parts and one more, made by loops, the tables of three of them and questions to these.
 
+use crate::ask;
 use crate::damage;
 use crate::lend;
 use crate::print;
 use crate::run;
 use crate::shape;
+use crate::trail;
 ghost use mathlib.Core.Path.{_≡_};
 ghost use lib.ListN.{length};
 
@@ -87,7 +89,7 @@ pub fn sizes() {
     run(&s, &mut w);
 }
 
-// Test 2, before 3, of the calls that are lent tables.
+// Test 2, before 3, of the calls that are lent tables, and of those that answer.
 pub fn size_of_tables() {
     let s = sheet_too_large();
     let mut label = [7u16; 6];
@@ -98,6 +100,7 @@ pub fn size_of_tables() {
     lend::built(&s, &mut label, &mut tour, &mut lift, &mut w);
     print::text(b"16385 entries, compared");
     lend::compare(&s, &label, &tour, &lift, &mut w);
+    answers(&s, &label, &tour, &lift, &mut w);
 }
 
 // Tests 4 to 6, at the last part.
@@ -137,7 +140,7 @@ pub fn cycles() {
     run(&s, &mut w);
 }
 
-// The tables of a star, a chain and a tree of no order.
+// The tables of a star, a chain and a tree of no order, and questions to them.
 pub fn tables() {
     let mut s = sheet();
     print::text(b"star of 16384, root 0");
@@ -159,7 +162,7 @@ fn lend_tables(parents: &[u16]) {
     run_tables(parents, &mut label, &mut tour, &mut lift, &mut w);
 }
 
-// Builds the tables of a sheet and compares them with it.
+// Builds the tables of a sheet, compares them with it and asks.
 fn run_tables(
     parents: &[u16],
     label: &mut [u16],
@@ -170,7 +173,39 @@ fn run_tables(
     print::text(b", tables");
     lend::built(parents, label, tour, lift, work);
     compare(b"  compared", parents, label, tour, lift, work);
+    answers(parents, label, tour, lift, work);
     run_damaged(parents, label, tour, lift, work);
+}
+
+// Asks for nine pairs by each route, for two trails, and for a list.
+fn answers(parents: &[u16], label: &[u16], tour: &[u16], lift: &[u16], work: &mut [u16]) {
+    let pairs = [
+        0u16,
+        16383,
+        16383,
+        16383,
+        16382,
+        16383,
+        12345,
+        6789,
+        4095,
+        4096,
+        8191,
+        8192,
+        7586,
+        11500,
+        15297,
+        9876,
+        12290,
+        11371,
+    ];
+    let apart = [12290u16, 11371];
+    let above = [16383u16, 0];
+    let many = [13885u16, 11371, 10066, 12290];
+    ask::pairs(9, &pairs, parents, label, tour, lift, work);
+    trail::ask(1, 64, &apart, parents, label, tour, lift, work);
+    trail::ask(1, 64, &above, parents, label, tour, lift, work);
+    ask::ask(b'm', 1, &many, parents, label, tour, lift, work);
 }
 
 // Compares a sheet's tables with it, the last cell changed, and then the first cell too.

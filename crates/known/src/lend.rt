@@ -1,14 +1,16 @@
 // Building tables and comparing them. A line has how many cells of label, tour, lift and work are lent, which all hold sevens, and then the
 // entries, as in "tables 6 3 1 4: 0". Its first letter says what is done: 't' builds the tables and prints them; 'd' builds them, changes
-// the cells at some places and compares; 'o' builds the tables of one sheet and compares them with another; 'c' compares the sevens.
+// the cells at some places and compares; 'o' builds the tables of one sheet and compares them with another; 'c' compares the sevens. Lines
+// of ask.rt begin with the same four numbers.
 
+use crate::ask;
 use crate::damage;
 use crate::print;
 use crate::shape;
 use tree::Outcome;
 ghost use Prim.Native.Nat.{_<_};
 
-// Runs a line of one of the four kinds.
+// Runs a line of a kind of this file or of ask.rt.
 pub fn run(kind: u8, numbers: &[u16]) {
     let mut label = [7u16; 192];
     let mut tour = [7u16; 480];
@@ -18,7 +20,7 @@ pub fn run(kind: u8, numbers: &[u16]) {
 }
 
 // A number that may be an index.
-fn wide(x: u16) -> usize
+pub fn wide(x: u16) -> usize
     ensures { λ r. ⌜ r < 65536 ⌝ }
 {
     x as usize
@@ -56,7 +58,7 @@ fn lend(
     );
 }
 
-// Runs a line of one of the four kinds on exact buffers.
+// Runs a line of one of these kinds on the cells that are lent.
 fn run_kind(
     kind: u8,
     numbers: &[u16],
@@ -69,7 +71,8 @@ fn run_kind(
         b't' => build(numbers, label, tour, lift, work),
         b'd' => damaged(numbers, label, tour, lift, work),
         b'o' => other(numbers, label, tour, lift, work),
-        _ => sevens(numbers, label, tour, lift, work),
+        b'c' => sevens(numbers, label, tour, lift, work),
+        _ => ask::run(kind, numbers, label, tour, lift, work),
     }
 }
 

@@ -59,6 +59,83 @@ pub fn damaged(places: &[u16]) {
     list(places);
 }
 
+// How many cells of answer and trail are lent, where the tables are damaged, and what is asked.
+pub fn asked(answer: usize, trail: usize, places: &[u16], question: &[u16]) {
+    text(b" ");
+    number(answer as u64);
+    text(b" ");
+    number(trail as u64);
+    if 0 < places.len() {
+        damaged(places);
+    }
+    text(b", asked ");
+    some(question);
+    text(b"\n");
+}
+
+// The numbers of a list, or that there are none.
+fn some(cells: &[u16]) {
+    if cells.len() == 0 {
+        text(b"nothing");
+    }
+    list(cells);
+}
+
+// The name of a call.
+pub fn way(way: u8) {
+    match way {
+        b'l' => text(b"  labels"),
+        b't' => text(b"  tour"),
+        b'f' => text(b"  lifts"),
+        _ => text(b"  list"),
+    }
+}
+
+// A verdict, what became of work, and the answer.
+pub fn answered(r: Outcome, work: &[u16], answer: &[u16]) {
+    verdict(r);
+    after(work);
+    text(b", answer ");
+    match r {
+        Outcome::Accepted => list(answer),
+        Outcome::Refused(_) => kept(answer),
+    }
+}
+
+// Whether a buffer is as it was, all sevens.
+pub fn kept(cells: &[u16]) {
+    if all(cells, 7) {
+        text(b"kept");
+    } else {
+        text(b"changed");
+    }
+}
+
+// The count of a trail's lifts, its rows, and the cells after them.
+pub fn rows(lifts: usize, cells: &[u16]) {
+    text(b", lifts ");
+    number(lifts as u64);
+    if cells.len() / 2 < lifts {
+        text(b" and no room for them");
+        return;
+    }
+    let end = 2 * lifts;
+    text(b", rows ");
+    some(&cells[0..end]);
+    unused(&cells[end..]);
+}
+
+// The cells of a trail after its rows.
+fn unused(cells: &[u16]) {
+    text(b", then ");
+    number(cells.len() as u64);
+    if all(cells, 65535) {
+        text(b" times 65535");
+    } else {
+        text(b" cells that are not all 65535");
+    }
+}
+
 // ": accepted", or ": refused N at P".
 pub fn verdict(r: Outcome) {
     match r {
