@@ -2,8 +2,11 @@
 -- Assumes nothing.
 use native.Mathlib.Omega.{arith}
 use borrow.Author.Needs.{needs}
-use mathlib.Core.Path.{ap, _∙_}
+use mathlib.Core.Path.{_≡_, ap, _∙_}
 use mathlib.Core.List.{[], _∷_}
+use Rattle.tree.specs.Lca.{lca}
+use Rattle.tree.specs.Tables.{own}
+use Rattle.tree.specs.Routes.{byLabels}
 use Rattle.routes.proofs.Giving.{one-stored, ends-pair, ends-carrier}
 use Rattle.routes.proofs.answer.list.Statement.{statement}
 use Rattle.routes.proofs.answer.list.Tie as tie
@@ -35,8 +38,11 @@ same-length c = search needs
 
 returns : tie.Need-returns
 returns c =
-    let ends = c .before .ends .ensures in
-    one-stored (c .before .before .before .before .before .before .args .answer .now) _ (c .before .before .before .before .before .before .pre .1) ∙ ap (λ x. x ∷ []) (c .by-labels .ensures .is ∙ rw (ends .0, ends .1) (ends-carrier (c .before .before .before .before .before .before .pre .0)))
+    let s = c .before .before .before .before .before .before in
+    let ends = c .before .ends in
+    let both : byLabels (own (s .args .parents .now)) (ends .result .first) (ends .result .last) ≡ lca (s .args .parents .now) (s .args .question .now) =
+    rw (ends .ensures .0, ends .ensures .1) (ends-carrier (s .pre .0)) in
+    one-stored (s .args .answer .now) _ (s .pre .1) ∙ ap (λ x. x ∷ []) (c .by-labels .ensures .is ∙ both)
 
 pub list-spec : {M : Type 1} → statement M
 list-spec =
