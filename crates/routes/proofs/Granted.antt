@@ -52,15 +52,20 @@ module _ (s : List ℕ) (accepts : tests.Accepted s) where
       unfit-later _ _ (eq-eqb _ _ label) ∙ unfit-later _ _ (eq-eqb _ _ tour) ∙ unfit-later _ _ (eq-eqb _ _ lift)
       ∙ unfit-later _ _ (eq-eqb _ _ room) ∙ unfit-further further ∙ fits
 
-  -- so that a question of its parts is accepted
-  granted : (work question : List ℕ) (further : ℕ) → length work ≡ workCells (length s) → further ≡ 0 → Some s question
-      → askedVerdict (own s) work question further ≡ accepted
-  granted work question further room fits some =
+  -- so that the question alone decides
+  pub question-decides : (work question : List ℕ) (further : ℕ) → length work ≡ workCells (length s) → further ≡ 0
+      → askedVerdict (own s) work question further ≡ verdict (questionTests s question)
+  question-decides work question further room fits =
       let buffer = unfitOf (own s) work further in
       let sheet : verdict (sheetTests s buffer) ≡ accepted = ap (λ (b : ℕ). verdict (sheetTests s b)) (own-fits work further room fits) ∙ accepts in
       let fresh = stale-accepted (own s) (le-of-eq (sym (difference-none _ _ (record { cell = λ x h. refl })))) in
       accepted-on (lentTests (own s) buffer) (questionTests s question) (accepted-on (sheetTests s buffer) (staleTable (own s) ∷ []) sheet ∙ fresh)
-      ∙ parts-accepted s question (accepted-tree s accepts .0) (some .listed) (some .parts)
+
+  -- and a question of its parts is accepted
+  granted : (work question : List ℕ) (further : ℕ) → length work ≡ workCells (length s) → further ≡ 0 → Some s question
+      → askedVerdict (own s) work question further ≡ accepted
+  granted work question further room fits some =
+      question-decides work question further room fits ∙ parts-accepted s question (accepted-tree s accepts .0) (some .listed) (some .parts)
 
   -- pairs by a rule
   pub pairs-granted : {rule : Lent → ℕ → ℕ → ℕ} {question : List ℕ} {a : Asked} {r : Outcome} {work′ answer′ : List ℕ} → Some s question → length question % 2 ≡ 0

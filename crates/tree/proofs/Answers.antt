@@ -73,26 +73,26 @@ module _ (s : List ℕ) where
 
   pub refused-empty : (buffer : ℕ) → length s ≡ 0 → verdict (sheetTests s buffer) ≡ refused 1 0
   unfolding empty
-  refused-empty buffer h = first-refused [] (empty s) _ tt (le-ltb _ _ (le-of-eq h))
+  refused-empty buffer h = first-refused [] (empty (length s)) _ tt (le-ltb _ _ (le-of-eq h))
 
   pub refused-too-large : (buffer : ℕ) → 0 < length s → limit < length s → verdict (sheetTests s buffer) ≡ refused 2 0
   unfolding empty tooLarge
-  refused-too-large buffer h l = first-refused (empty s ∷ []) (tooLarge limit s) _ (lt-ltb _ _ h, tt) (lt-leb _ _ l)
+  refused-too-large buffer h l = first-refused (empty (length s) ∷ []) (tooLarge limit (length s)) _ (lt-ltb _ _ h, tt) (lt-leb _ _ l)
 
-  sizes-pass : 0 < length s → length s ≤ limit → Passed (empty s ∷ tooLarge limit s ∷ [])
+  sizes-pass : 0 < length s → length s ≤ limit → Passed (empty (length s) ∷ tooLarge limit (length s) ∷ [])
   unfolding empty tooLarge
   sizes-pass h l = (lt-ltb _ _ h, (le-leb _ _ l, tt))
 
   pub refused-wrong-length : (buffer : ℕ) → 0 < length s → length s ≤ limit → buffer ≢ 0 → verdict (sheetTests s buffer) ≡ refused 3 buffer
   unfolding wrongLength
-  refused-wrong-length buffer h l q = first-refused (empty s ∷ tooLarge limit s ∷ []) (wrongLength buffer) _ (sizes-pass h l) (ne-eqb _ _ q)
+  refused-wrong-length buffer h l q = first-refused (empty (length s) ∷ tooLarge limit (length s) ∷ []) (wrongLength buffer) _ (sizes-pass h l) (ne-eqb _ _ q)
 
   -- where all three pass, tests 4 to 7 decide
   pub tree-decides : (buffer : ℕ) → 0 < length s → length s ≤ limit → buffer ≡ 0 → verdict (sheetTests s buffer) ≡ verdict (treeTests s)
   unfolding wrongLength
   tree-decides buffer h l e =
       let (a, (b, _)) = sizes-pass h l in
-      passed-on (empty s ∷ tooLarge limit s ∷ wrongLength buffer ∷ []) (treeTests s) (a, (b, (eq-eqb _ _ e, tt)))
+      passed-on (empty (length s) ∷ tooLarge limit (length s) ∷ wrongLength buffer ∷ []) (treeTests s) (a, (b, (eq-eqb _ _ e, tt)))
 
   -- a sheet of no part or of too many is refused whatever its buffers
   pub same-verdict : (a b : ℕ) → (0 < length s → length s ≤ limit → a ≡ b) → verdict (sheetTests s a) ≡ verdict (sheetTests s b)

@@ -30,12 +30,12 @@ abbrev pub lowestBad : ℕ → (ℕ → Bool) → ℕ → Test
 lowestBad number bad n = record { number = number; passes = eqb (least bad n) n; place = least bad n }
 
 -- 1 "bare": n is 0
-unfoldable pub empty : List ℕ → Test
-empty s = record { number = 1; passes = ltb 0 (length s); place = 0 }
+unfoldable pub empty : ℕ → Test
+empty n = record { number = 1; passes = ltb 0 n; place = 0 }
 
 -- 2 "oversize": n above the limit
-unfoldable pub tooLarge : ℕ → List ℕ → Test
-tooLarge limit s = record { number = 2; passes = leb (length s) limit; place = 0 }
+unfoldable pub tooLarge : ℕ → ℕ → Test
+tooLarge limit n = record { number = 2; passes = leb n limit; place = 0 }
 
 -- 3 "misfit": a lent buffer hasn't its exact length, at the lowest buffer. 0 says that all fit
 unfoldable pub wrongLength : ℕ → Test
@@ -87,7 +87,7 @@ treeTests s = parentOutOfRange s ∷ noRoot s ∷ secondRoot s ∷ cycle s ∷ [
 
 -- the tests of a sheet, 1 to 7, of a call whose lowest buffer that does not fit is `buffer`
 abbrev pub sheetTests : List ℕ → ℕ → List Test
-sheetTests s buffer = empty s ∷ tooLarge limit s ∷ wrongLength buffer ∷ treeTests s
+sheetTests s buffer = empty (length s) ∷ tooLarge limit (length s) ∷ wrongLength buffer ∷ treeTests s
 
 -- the tests of a sheet with lent tables, 1 to 8
 abbrev pub lentTests : Lent → ℕ → List Test

@@ -13,19 +13,20 @@ use Rattle.tables.proofs.admit.Tie as tie
 
 returns : tie.Need-returns
 returns c =
-    let e = refused-empty _ (c .before .before .before .args .unfit) (c .if1 .taken) in
+    let s = c .before .before .before in
+    let e = refused-empty (s .args .parents .now) (s .args .unfit) (c .if1 .taken) in
     record { outcome = sym e; work = work-kept _ 1 0 _ e (lit≤ tt) }
 
 returns-2 : tie.Need-returns-2
 returns-2 c =
     let s = c .before .before .before .before in
-    let e = refused-too-large _ (s .args .unfit) (pos-of-ne-zero (c .before .if1 .left)) (c .if2 .taken) in
+    let e = refused-too-large (s .args .parents .now) (s .args .unfit) (pos-of-ne-zero (c .before .if1 .left)) (c .if2 .taken) in
     record { outcome = sym e; work = work-kept _ 2 0 _ e (lit≤ tt) }
 
 returns-3 : tie.Need-returns-3
 returns-3 c =
     let s = c .before .before .before .before .before in
-    let e = refused-wrong-length _ (s .args .unfit) (pos-of-ne-zero (c .before .before .if1 .left)) (c .before .if2 .left) (c .if3 .taken) in
+    let e = refused-wrong-length (s .args .parents .now) (s .args .unfit) (pos-of-ne-zero (c .before .before .if1 .left)) (c .before .if2 .left) (c .if3 .taken) in
     record { outcome = sym e; work = work-kept _ 3 (s .args .unfit) _ e (lit≤ tt) }
 
 clear-requires : tie.Need-clear-requires
