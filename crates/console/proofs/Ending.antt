@@ -1,0 +1,47 @@
+-- The whole run: what is printed of an input above the limit and of one within it, the room for it, and what the run gives.
+-- Assumes nothing.
+use Prim.Native.Nat.{ℕ, _≤_, _<_}
+use native.Mathlib.Omega.{arith}
+use mathlib.Core.Path.{_≡_, refl, ap, _∙_}
+use mathlib.Core.List.{List}
+use borrow.Author.Tests.{le-leb, lt-leb}
+use lib.ListN.{length}
+use Rattle.text.specs.Puts.{Room, Puts}
+use Rattle.text.proofs.Putting.{over-start}
+use Rattle.console.specs.Run.{mostBytes, illegible, output}
+use Rattle.console.specs.Gives.{startText, StartGives}
+use Rattle.console.specs.Whole.{room, RunGives}
+use Rattle.console.specs.declared.sheet.Start.{Start}
+use Rattle.console.specs.declared.Written.the-variants.{Text, Short}
+use Rattle.console.proofs.Bounds.{output-bound}
+
+-- an input above the limit
+pub output-above : (input : List ℕ) → mostBytes < length input → illegible 1 ≡ output input
+unfolding output
+output-above input h = rw (lt-leb (length input) mostBytes h) refl
+
+-- one within it, by what its machine line gave
+pub output-within : {input : List ℕ} {r r′ : Start} → length input ≤ mostBytes → StartGives input r → r ≡ r′ → startText input r′ ≡ output input
+unfolding output
+output-within {input} h g e = rw e at (g .is) ∙ rw (le-leb (length input) mostBytes h) refl
+
+-- there is room for it
+pub output-room : (input out : List ℕ) {text : List ℕ} → room (length input) ≤ length out → text ≡ output input → Room out 0 text
+output-room input out {text} h e = let same : length text ≡ length (output input) = ap length e in omega (arith, output-bound input)
+
+-- a buffer that is too short is as it was
+pub run-short : {input out : List ℕ} {n : ℕ} → n ≡ room (length input) → length out < n → RunGives input out (Short n) out
+run-short {input} {out} {n} e h =
+    let no-room = lt-leb (room (length input)) (length out) (rw e at h) in
+    record { outcome = rw no-room (ap Short e); buffer = rw no-room refl; bound = output-bound input }
+
+-- one that is not has the text at its start
+pub run-text : {input out out′ : List ℕ} {n r : ℕ} → n ≡ room (length input) → n ≤ length out → Puts out 0 (output input) out′ r → RunGives input out (Text r) out′
+run-text {input} {out} {out′} {n} {r} e h p =
+    let roomy = le-leb (room (length input)) (length out) (rw e at h) in
+    let long : r ≡ length (output input) = omega (arith, p .place) in
+    record {
+      outcome = rw roomy (ap Text long);
+      buffer = rw roomy (p .written ∙ over-start out (output input));
+      bound = output-bound input;
+    }

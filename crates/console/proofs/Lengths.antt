@@ -1,0 +1,133 @@
+-- How long the lines are that a run prints: refusals, and the answers to questions.
+-- Assumes nothing.
+use Prim.Native.Nat.{ℕ, suc, _-_, _*_, _≤_, _<_}
+use native.Mathlib.Nat.{le-trans}
+use native.Mathlib.Omega.{arith}
+use mathlib.Core.Path.{_≡_, refl}
+use mathlib.Core.Bool.{not}
+use mathlib.Core.List.{List, [], _∷_}
+use borrow.Table.Steps.{cases}
+use lib.Dec.{leb}
+use lib.ListN.{length, getD, length-append}
+use Rattle.tree.specs.Lca.{lca}
+use Rattle.tree.specs.Tree.{parent, climb, isRoot, nextRoot, rootOf}
+use Rattle.tree.specs.Trail.{liftCount}
+use Rattle.tree.specs.Verdict.{accepted}
+use Rattle.tree.specs.Tests.{Test, verdict, empty, tooLarge, wrongLength, parentOutOfRange, noRoot, secondRoot, cycle, nothingListed, nodeOutOfRange, noCommonAncestor, sheetTests, questionTests, Accepted}
+use Rattle.tree.proofs.Scans.{least-le, least-from}
+use Rattle.tree.proofs.Roots.{root-of}
+use Rattle.tree.proofs.Lcas.{lca-found}
+use Rattle.tree.proofs.ByLifts.{trail-fits}
+use Rattle.tree.proofs.Acceptance.{accepted-tree}
+use Rattle.tree.proofs.Questions.{question-parts, question-accepted}
+use Rattle.tree.proofs.Claims.{trail-rows}
+use Rattle.text.specs.Bytes.{bytes, wordNumber}
+use Rattle.text.proofs.Decimals.{decimal-some}
+use Rattle.console.specs.Forms.{Query, pair, many, asked, text, mostListed, Legal}
+use Rattle.console.specs.Print.{refusal, pairLine, manyLine, given}
+use Rattle.console.specs.Run.{most, answer}
+use Rattle.console.proofs.Legible.{five-digits}
+use Rattle.console.proofs.Carriers.{carrier-small}
+
+-- ---- numbers and refusals
+
+-- a number of at most five digits
+abbrev pub Short : ℕ → Type 0
+Short n = n < 100000
+
+-- the line of a refusal
+pub refusal-length : (number place : ℕ) → Short number → Short place → length (refusal number place) ≤ 27
+unfolding refusal wordNumber bytes
+refusal-length number place h k =
+    let left = five-digits number h in
+    let right = five-digits place k in
+    simp length-append (omega arith)
+
+-- the numbers and places of some tests
+abbrev pub Shorts : List Test → Type 0
+Shorts [] = Unit {0}
+Shorts (t ∷ ts) = Short (t .number) × Short (t .place) × Shorts ts
+
+-- what is printed by a verdict: a refusal, or the text of what is accepted
+pub given-length : (ts : List Test) (b : List ℕ) (m : ℕ) → Shorts ts → 27 ≤ m → (verdict ts ≡ accepted → length b ≤ m) → length (given (verdict ts) b) ≤ m
+unfolding verdict given
+given-length [] b m h low fits = fits refl
+given-length (t ∷ ts) b m h low fits =
+    let rest = given-length ts b m (h .2) low in
+    cases (t .passes)
+    (λ e. rw e (rest (rw e at fits)))
+    (λ e. rw e (le-trans (refusal-length (t .number) (t .place) (h .0) (h .1)) low))
+
+-- those of the tests of a machine's count
+pub count-shorts : (n : ℕ) → Shorts (empty n ∷ tooLarge most n ∷ [])
+unfolding empty tooLarge
+count-shorts n = omega arith
+
+-- of a sheet: each place is a part's number, or one above
+pub sheet-shorts : (s : List ℕ) → length s ≤ most → Shorts (sheetTests s 0)
+unfolding empty tooLarge wrongLength parentOutOfRange noRoot secondRoot cycle nextRoot
+sheet-shorts s h =
+    let outside = least-le (λ v. leb (length s) (parent s v)) (length s) in
+    let root = root-of s .to in
+    let second = least-from (isRoot s) (suc (rootOf s)) (length s - suc (rootOf s)) .to in
+    let loop = least-le (λ v. not (isRoot s (climb s (length s) v))) (length s) in
+    omega arith
+
+-- of a question: each place is one of its positions, or its length
+question-shorts : (s question : List ℕ) → length question ≤ mostListed → Shorts (questionTests s question)
+unfolding nothingListed nodeOutOfRange noCommonAncestor
+question-shorts s question h = let outside = least-le (λ i. leb (length s) (getD question i 0)) (length question) in omega arith
+
+-- ---- answers
+
+-- four bytes for each byte of a question's line, with its LF
+abbrev worth : Query → ℕ
+worth q = 4 * suc (length (text (asked q)))
+
+-- a refusal is no longer
+refusal-fits : (q : Query) → 27 ≤ worth q
+unfolding text wordNumber bytes
+refusal-fits (pair x y) = simp length-append (omega arith)
+refusal-fits (many xs) = simp length-append (omega arith)
+
+-- nor is a pair's answer
+pair-fits : (x y carrier lifts : ℕ) → Short carrier → Short lifts → length (pairLine x y carrier lifts) ≤ worth (pair x y)
+unfolding pairLine text wordNumber bytes
+pair-fits x y carrier lifts h k =
+    let some-x = decimal-some x in
+    let some-y = decimal-some y in
+    let left = five-digits carrier h in
+    let right = five-digits lifts k in
+    simp length-append (omega arith)
+
+-- nor a list's
+many-fits : (xs : List ℕ) (carrier : ℕ) → Short carrier → length (manyLine xs carrier) ≤ worth (many xs)
+unfolding manyLine text wordNumber bytes
+many-fits xs carrier h = let digits = five-digits carrier h in simp length-append (omega arith)
+
+module _ (s : List ℕ) (a : Accepted s) where
+  -- the carrier of a question that is accepted is a part
+  carrier-short : (question : List ℕ) → verdict (questionTests s question) ≡ accepted → Short (lca s question)
+  carrier-short question e =
+      let (t, _) = accepted-tree s a in
+      let (one, inside) = question-accepted s question e in
+      let below = carrier-small s a question e _ (lca-found t question one (question-parts s question inside)) in
+      omega arith
+
+  -- a pair has at most 32 lifts
+  lifts-short : (x y : ℕ) → verdict (questionTests s (x ∷ y ∷ [])) ≡ accepted → Short (liftCount s x y)
+  lifts-short x y e =
+      let (_, inside) = question-accepted s (x ∷ y ∷ []) e in
+      let rows = trail-rows s a x y (inside 0 (omega arith)) (inside 1 (omega arith)) in
+      let few = trail-fits s (accepted-tree s a .1) x y in
+      omega arith
+
+  -- an answer has at most four bytes for each byte of its line
+  pub answer-length : (q : Query) → Legal (asked q) → length (answer s q) ≤ 4 * suc (length (text (asked q)))
+  unfolding answer
+  answer-length (pair x y) h =
+      given-length (questionTests s (x ∷ y ∷ [])) _ (worth (pair x y)) (question-shorts s (x ∷ y ∷ []) (omega arith)) (refusal-fits (pair x y))
+      (λ e. pair-fits x y _ _ (carrier-short (x ∷ y ∷ []) e) (lifts-short x y e))
+  answer-length (many xs) h =
+      given-length (questionTests s xs) _ (worth (many xs)) (question-shorts s xs (h .0)) (refusal-fits (many xs))
+      (λ e. many-fits xs _ (carrier-short xs e))

@@ -1,0 +1,68 @@
+-- The test of a sheet whose buffers fit: the sheet alone decides, and where it is accepted, questions are asked of it and its own tables.
+-- Assumes nothing.
+use Prim.Native.Nat.{ℕ, _≤_, _<_}
+use mathlib.Core.Path.{_≡_, refl, sym, ap, _∙_}
+use mathlib.Core.List.{List, []}
+use borrow.Author.Tests.{eq-eqb}
+use lib.ListN.{length, length-replicate}
+use Rattle.tree.specs.declared.Refusal.{Refusal}
+use Rattle.tree.specs.declared.Outcome.{Outcome}
+use Rattle.tree.specs.declared.Outcome.the-variants.{Accepted, Refused}
+use Rattle.tree.specs.Verdict.{accepted, verdictOf}
+use Rattle.tree.specs.Tests.{verdict, sheetTests}
+use Rattle.tree.specs.Buffers.{labelCells, tourCells, liftCells, workCells}
+use Rattle.tree.specs.Tables.{Lent}
+use Rattle.tree.proofs.Answers.{work-accepted}
+use Rattle.tree.proofs.Fits.{unfit-later, unfit-further}
+use Rattle.tables.specs.Lend.{unfitOf, BuildGives}
+use Rattle.tables.proofs.Claims.{build-fills}
+use Rattle.text.specs.Lines.{Lines}
+use Rattle.console.specs.Print.{given}
+use Rattle.console.specs.Run.{most, partLine, questions, sheet, sheetRun}
+use Rattle.console.specs.Gives.{Stands, Sized}
+use Rattle.console.proofs.Answering.{given-refused, given-accepted}
+
+-- tables and work of n parts have their lengths
+pub sized-of : {t : Lent} {work : List ℕ} (n : ℕ) → 0 < n → n ≤ most → n ≡ length (t .parents) → labelCells n ≡ length (t .label) → tourCells n ≡ length (t .tour)
+    → liftCells n ≡ length (t .lift) → workCells n ≡ length work → Sized t work
+sized-of n some small long label tour lift room = record {
+  some = rw (← long) some;
+  small = rw (← long) small;
+  label-cells = rw (← long) (sym label);
+  tour-cells = rw (← long) (sym tour);
+  lift-cells = rw (← long) (sym lift);
+  room = rw (← long) (sym room);
+}
+
+module _ {t : Lent} {work label′ tour′ lift′ work′ : List ℕ} {r : Outcome} (sized : Sized t work) (g : BuildGives t work r label′ tour′ lift′ work′) where
+  -- no buffer does not fit
+  fits : unfitOf t work 0 ≡ 0
+  fits =
+      unfit-later _ _ (eq-eqb _ _ (sized .label-cells)) ∙ unfit-later _ _ (eq-eqb _ _ (sized .tour-cells)) ∙ unfit-later _ _ (eq-eqb _ _ (sized .lift-cells))
+      ∙ unfit-later _ _ (eq-eqb _ _ (sized .room)) ∙ unfit-further 0
+
+  -- so that the sheet alone decides
+  sheet-decides : verdictOf r ≡ verdict (sheetTests (t .parents) 0)
+  sheet-decides = g .outcome ∙ ap (λ (buffer : ℕ). verdict (sheetTests (t .parents) buffer)) fits
+
+  -- a refused sheet's line is all that is printed
+  pub sheet-refused : {why : Refusal} (rest : Lines) → r ≡ Refused why → given (verdictOf r) [] ≡ sheetRun (sheet (t .parents) rest)
+  unfolding sheetRun
+  sheet-refused rest e = given-refused _ (ap verdictOf e) sheet-decides
+
+  module _ (e : r ≡ Accepted) where
+    -- an accepted one's questions are answered
+    pub sheet-accepted : (rest : Lines) → questions (t .parents) (partLine (length (t .parents))) rest ≡ sheetRun (sheet (t .parents) rest)
+    unfolding sheetRun
+    sheet-accepted rest = given-accepted _ (ap verdictOf e) sheet-decides
+
+    -- of it and the tables that were built
+    pub sheet-stands : Stands (record { parents = t .parents; label = label′; tour = tour′; lift = lift′ }) work′
+    sheet-stands =
+        let yes : verdictOf r ≡ accepted = ap verdictOf e in
+        let (label, tour, lift) = build-fills g e in
+        record {
+          accepts = sym sheet-decides ∙ yes;
+          tables = rw (label, tour, lift) refl;
+          room = ap length (g .work ∙ work-accepted _ work (sym (g .outcome) ∙ yes)) ∙ length-replicate _ _ ∙ sized .room;
+        }

@@ -1,0 +1,67 @@
+-- `console::reader::next_line` meets its contract: the line's end is looked for, and the bytes before it are read.
+-- Assumes nothing.
+use borrow.Author.Needs.{needs}
+use Rattle.console.proofs.NextLine.{takes-tail, takes-illegible, takes-line}
+use Rattle.console.proofs.reader.next_line.Statement.{statement}
+use Rattle.console.proofs.reader.next_line.Tie as tie
+
+line-end-requires : tie.Need-line-end-requires
+line-end-requires c κs = search needs
+
+returns : tie.Need-returns
+returns c = takes-tail (c .before .line-end .ensures) (c .if1 .taken)
+
+sub-read : tie.Need-sub-read
+sub-read c = search needs
+
+part-read-start : tie.Need-part-read-start
+part-read-start c = search needs
+
+part-read-end : tie.Need-part-read-end
+part-read-end c = search needs
+
+read-requires : tie.Need-read-requires
+read-requires c κs = search needs
+
+enum-known-line : tie.Need-enum-known-line
+enum-known-line c = search needs
+
+add-t15 : tie.Need-add-t15
+add-t15 c = search needs
+
+enum-told : tie.Need-enum-told
+enum-told c = search needs
+
+same-length : tie.Need-same-length
+same-length c = search needs
+
+returns-2 : tie.Need-returns-2
+returns-2 c =
+    takes-line (c .before .before .before .before .before .before .before .before .before .line-end .ensures) (c .before .before .before .before .before .before .before .before .if1 .left)
+    (rw (c .before .line .given .1) at (c .before .before .before .before .before .read .ensures))
+
+same-length-2 : tie.Need-same-length-2
+same-length-2 c = search needs
+
+returns-3 : tie.Need-returns-3
+returns-3 c =
+    takes-illegible (c .before .before .before .before .before .before .before .before .line-end .ensures) (c .before .before .before .before .before .before .before .if1 .left)
+    (rw (c .enum-told .given .1) at (c .before .before .before .before .read .ensures))
+
+pub next-line-spec : {M : Type 1} → statement M
+next-line-spec =
+    tie.close
+    (tie.spec
+    line-end-requires
+    returns
+    sub-read
+    part-read-start
+    part-read-end
+    read-requires
+    enum-known-line
+    add-t15
+    enum-told
+    same-length
+    returns-2
+    same-length-2
+    returns-3)

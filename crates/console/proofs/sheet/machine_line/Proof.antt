@@ -1,0 +1,63 @@
+-- `console::sheet::machine_line` meets its contract: the first line is taken as the machine line, and its count is tested.
+-- Assumes nothing.
+use mathlib.Core.Path.{refl}
+use borrow.Author.Needs.{needs}
+use Rattle.console.specs.Read.{count}
+use Rattle.console.proofs.Taking.{start-unread, start-other, start-machine}
+use Rattle.console.proofs.sheet.machine_line.Statement.{statement}
+use Rattle.console.proofs.sheet.machine_line.Tie as tie
+
+slice-aggregate-next-line : tie.Need-slice-aggregate-next-line
+slice-aggregate-next-line c = search needs
+
+next-line-requires : tie.Need-next-line-requires
+next-line-requires c κs = search needs
+
+enum-known-line : tie.Need-enum-known-line
+enum-known-line c = search needs
+
+enum-told : tie.Need-enum-told
+enum-told c = search needs
+
+returns : tie.Need-returns
+returns c = start-unread (c .before .before .before .next-line .ensures) (c .enum-told .given .1)
+
+enum-known-line-2 : tie.Need-enum-known-line-2
+enum-known-line-2 c = search needs
+
+admit-requires : tie.Need-admit-requires
+admit-requires c κs = search needs
+
+enum-told-2 : tie.Need-enum-told-2
+enum-told-2 c = search needs
+
+enum-told-3 : tie.Need-enum-told-3
+enum-told-3 c = search needs
+
+returns-2 : tie.Need-returns-2
+returns-2 c = start-machine (c .before .before .before .before .before .before .before .before .next-line .ensures) (c .before .before .before .before .before .line .given .1) (c .before .before .line2 .given .1) (c .admit .ensures)
+
+returns-3 : tie.Need-returns-3
+unfolding count
+returns-3 c = start-other (c .before .before .before .before .before .before .next-line .ensures) (c .before .before .before .line .given .1) (c .enum-told2 .given .1) refl
+
+returns-4 : tie.Need-returns-4
+unfolding count
+returns-4 c = start-other (c .before .before .before .before .before .before .next-line .ensures) (c .before .before .before .line .given .1) (c .enum-told3 .given .1) refl
+
+pub machine-line-spec : {M : Type 1} → statement M
+machine-line-spec =
+    tie.close
+    (tie.spec
+    slice-aggregate-next-line
+    next-line-requires
+    enum-known-line
+    enum-told
+    returns
+    enum-known-line-2
+    admit-requires
+    enum-told-2
+    enum-told-3
+    returns-2
+    returns-3
+    returns-4)

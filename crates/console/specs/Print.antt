@@ -1,0 +1,29 @@
+-- The lines that the program prints. "Each output line ends in one LF."
+-- Assumes nothing.
+use Prim.Native.Nat.{ℕ}
+use mathlib.Core.List.{List, _++_}
+use Rattle.text.specs.Bytes.{bytes, wordNumber}
+use Rattle.tree.specs.Verdict.{Verdict, accepted, refused}
+use Rattle.console.specs.Forms.{listText}
+
+-- "prints `(refused N (at P))`"
+unfoldable pub refusal : ℕ → ℕ → List ℕ
+refusal number place = wordNumber (bytes "(refused ") number ++ (wordNumber (bytes " (at ") place ++ bytes "))\n")
+
+-- "The first line repeats the machine count"
+unfoldable pub machineLine : ℕ → List ℕ
+machineLine n = wordNumber (bytes "(machine ") n ++ bytes ")\n"
+
+-- "Each question repeats its numbers, then gives its carrier and, for a pair, its lifts"
+unfoldable pub pairLine : ℕ → ℕ → ℕ → ℕ → List ℕ
+pairLine x y carrier lifts =
+    wordNumber (bytes "(pair ") x
+    ++ (wordNumber (bytes " ") y ++ (wordNumber (bytes " (carrier ") carrier ++ (wordNumber (bytes ") (lifts ") lifts ++ bytes "))\n")))
+
+unfoldable pub manyLine : List ℕ → ℕ → List ℕ
+manyLine xs carrier = bytes "(many" ++ (listText xs ++ (wordNumber (bytes " (carrier ") carrier ++ bytes "))\n"))
+
+-- what an accepted input prints, or the line of its refusal
+unfoldable pub given : Verdict → List ℕ → List ℕ
+given accepted text = text
+given (refused number place) text = refusal number place

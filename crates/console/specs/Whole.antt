@@ -1,0 +1,25 @@
+-- What a run of the whole program gives, from the input and the length of the buffer alone.
+-- Assumes nothing.
+use Prim.Native.Nat.{ℕ, _+_, _*_, _≤_, min}
+use mathlib.Core.Path.{_≡_}
+use mathlib.Core.Bool.{Bool, cond}
+use mathlib.Core.List.{List, _++_}
+use lib.Dec.{leb}
+use lib.ListN.{length, drop}
+use Rattle.console.specs.Run.{mostBytes, output}
+use Rattle.console.specs.declared.Written.{Written}
+use Rattle.console.specs.declared.Written.the-variants.{Text, Short}
+
+-- how many bytes hold whatever is printed for an input of so many bytes
+abbrev pub room : ℕ → ℕ
+room bytes = 4 * min bytes mostBytes + 64
+
+-- a buffer has them
+abbrev pub holds : List ℕ → List ℕ → Bool
+holds input out = leb (room (length input)) (length out)
+
+-- a buffer that holds whatever is printed has the text at its start, and is as it was after it. A shorter one is as it was, and the answer says how many bytes it must have
+pub record RunGives (input out : List ℕ) (r : Written) (out′ : List ℕ) : Type 0 where
+  pub outcome : r ≡ cond (holds input out) (Text (length (output input))) (Short (room (length input)))
+  pub buffer : out′ ≡ cond (holds input out) (output input ++ drop (length (output input)) out) out
+  pub bound : length (output input) ≤ room (length input)

@@ -1,0 +1,152 @@
+// The questions, one by one, of an accepted sheet with its own tables. Each is a call of `routes`, which tests its input and compares the tables itself.
+
+use crate::form;
+use crate::form::Line;
+use crate::form::Question;
+use crate::print;
+use crate::reader;
+use crate::reader::Next;
+use tree::Outcome;
+use tree::Refusal;
+use tree::Traced;
+ghost use Prim.Native.Nat.{_≤_};
+ghost use lib.ListN.{length, drop};
+ghost use Rattle.text.specs.Lines.{lines};
+ghost use Rattle.text.specs.Puts.{Room, Puts};
+ghost use Rattle.console.specs.Forms.{mostListed, pair as Forms·pair, many as Forms·many};
+ghost use Rattle.console.specs.Run.{most, partLine, answer as Run·answer, questions as Run·questions};
+ghost use Rattle.console.specs.Gives.{queryOf, listedBy, AsksGive, Stands};
+
+// What a question line gives: the question, and the position after the line.
+pub(crate) enum Asks {
+    Question(Question, usize),
+    Illegible,
+}
+
+// Answers the questions from a position on, the first of which is line `first`, and writes the answers from place `put` on.
+pub(crate) fn questions(
+    input: &[u8],
+    at: usize,
+    first: usize,
+    parents: &[u16],
+    label: &[u16],
+    tour: &[u16],
+    lift: &[u16],
+    work: &mut [u16],
+    out: &mut [u8],
+    put: usize,
+) -> usize
+    requires { ⌜ (at ≤ length (now input)) × (first ≤ partLine most) ⌝ }
+    requires { ⌜ Stands (record { parents = now parents; label = now label; tour = now tour; lift = now lift }) (now work) ⌝ }
+    requires { ⌜ Room (now out) put (Run·questions (now parents) first (lines (drop at (now input)))) ⌝ }
+    ensures { λ r. ⌜ Puts (now (out .entry)) put (Run·questions (now (parents .entry)) first (lines (drop at (now (input .entry))))) (now (out .exit)) r ⌝ }
+{
+    let mut beside = [0u16; form::MOST_LISTED];
+    let mut i = at;
+    let mut number = first;
+    let mut next = put;
+    while i < input.len() {
+        let Asks::Question(q, end) = question(input, i, &mut beside) else {
+            return print::refusal(out, next, Refusal::MalformedLine(number));
+        };
+        next = answer(q, &beside, parents, label, tour, lift, work, out, next);
+        i = end;
+        number += 1;
+    }
+    next
+}
+
+// Reads a question line.
+fn question(input: &[u8], at: usize, beside: &mut [u16]) -> Asks
+    requires { ⌜ (at ≤ length (now input)) × (mostListed ≤ length (now beside)) ⌝ }
+    ensures { λ r. ⌜ AsksGive (now (input .entry)) at (now (beside .exit)) r ⌝ }
+{
+    let Next::Took(line, end) = reader::next_line(input, at, beside) else {
+        return Asks::Illegible;
+    };
+    let Line::Asked(q) = line else {
+        return Asks::Illegible;
+    };
+    Asks::Question(q, end)
+}
+
+// Answers a question, whose list stands at the start of `beside`.
+fn answer(
+    q: Question,
+    beside: &[u16],
+    parents: &[u16],
+    label: &[u16],
+    tour: &[u16],
+    lift: &[u16],
+    work: &mut [u16],
+    out: &mut [u8],
+    put: usize,
+) -> usize
+    requires { ⌜ listedBy q ≤ length (now beside) ⌝ }
+    requires { ⌜ Stands (record { parents = now parents; label = now label; tour = now tour; lift = now lift }) (now work) ⌝ }
+    requires { ⌜ Room (now out) put (Run·answer (now parents) (queryOf (now beside) q)) ⌝ }
+    ensures { λ r. ⌜ Puts (now (out .entry)) put (Run·answer (now (parents .entry)) (queryOf (now (beside .entry)) q)) (now (out .exit)) r ⌝ }
+{
+    match q {
+        Question::Pair(x, y) => pair(x, y, parents, label, tour, lift, work, out, put),
+        Question::Many(count) => many(&beside[..count], parents, label, tour, lift, work, out, put),
+    }
+}
+
+// Answers a pair.
+fn pair(
+    x: u16,
+    y: u16,
+    parents: &[u16],
+    label: &[u16],
+    tour: &[u16],
+    lift: &[u16],
+    work: &mut [u16],
+    out: &mut [u8],
+    put: usize,
+) -> usize
+    requires { ⌜ Stands (record { parents = now parents; label = now label; tour = now tour; lift = now lift }) (now work) ⌝ }
+    requires { ⌜ Room (now out) put (Run·answer (now parents) (Forms·pair x y)) ⌝ }
+    ensures { λ r. ⌜ Puts (now (out .entry)) put (Run·answer (now (parents .entry)) (Forms·pair x y)) (now (out .exit)) r ⌝ }
+{
+    let question = [x, y];
+    let mut answer = [0u16; 1];
+    let mut rows = [0u16; 64];
+    let r = routes::trail(
+        parents,
+        label,
+        tour,
+        lift,
+        work,
+        &question,
+        &mut answer,
+        &mut rows,
+    );
+    let Traced::Lifts(lifts) = r else {
+        return print::traced(out, put, r);
+    };
+    print::pair(out, put, x as usize, y as usize, answer[0] as usize, lifts)
+}
+
+// Answers a list.
+fn many(
+    question: &[u16],
+    parents: &[u16],
+    label: &[u16],
+    tour: &[u16],
+    lift: &[u16],
+    work: &mut [u16],
+    out: &mut [u8],
+    put: usize,
+) -> usize
+    requires { ⌜ Stands (record { parents = now parents; label = now label; tour = now tour; lift = now lift }) (now work) ⌝ }
+    requires { ⌜ Room (now out) put (Run·answer (now parents) (Forms·many (now question))) ⌝ }
+    ensures { λ r. ⌜ Puts (now (out .entry)) put (Run·answer (now (parents .entry)) (Forms·many (now (question .entry)))) (now (out .exit)) r ⌝ }
+{
+    let mut answer = [0u16; 1];
+    let r = routes::list(parents, label, tour, lift, work, question, &mut answer);
+    let Outcome::Accepted = r else {
+        return print::outcome(out, put, r);
+    };
+    print::many(out, put, question, answer[0] as usize)
+}
