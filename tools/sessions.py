@@ -1,0 +1,89 @@
+#!/usr/bin/env python3
+"""What `sessions` must print, worked out by the plain model of tools/report.py, which shares nothing with the library.
+
+    python3 tools/sessions.py | diff - crates/sessions/stdout
+
+The inputs that stand in the program's source are read from there, in the order of its runs; those that it makes by loops are made here again.
+"""
+import ast
+import os
+import re
+import sys
+
+from report import report
+
+SOURCES = os.path.join(os.path.dirname(os.path.abspath(__file__)), '..', 'crates', 'sessions', 'src')
+KNOWN = b'(machine 7)\n' + b''.join(b'(part %d (in %d))\n' % (v, p) for v, p in enumerate([0, 0, 0, 1, 1, 2, 5]))
+CALL = re.compile(r'show::(case|asked)\(\s*(b"(?:[^"\\]|\\.)*"),\s*(b"(?:[^"\\]|\\.)*"),?\s*\)')
+
+
+def say(name, text):
+    sys.stdout.write(name.decode() + ':\n' + text)
+
+
+def written(name):
+    """The runs whose inputs stand in a file of the program."""
+    with open(os.path.join(SOURCES, name)) as source:
+        for kind, title, text in CALL.findall(source.read()):
+            data = ast.literal_eval(text)
+            say(ast.literal_eval(title), report(KNOWN + data if kind == 'asked' else data))
+
+
+def room(n):
+    """What a buffer must have: four bytes for each byte that is read, and 64."""
+    return 4 * min(n, 65536) + 64
+
+
+def in_buffers(title, data):
+    """In a buffer of its room, and in two that are short."""
+    short = 'the buffer is short: it needs %d bytes\n' % room(len(data))
+    say(title, report(data) + short + short)
+
+
+def summary(title, data):
+    text, total = report(data), 0
+    assert len(text) <= room(len(data))
+    for b in text.encode():
+        total = (31 * total + b) % 1000003
+    say(title, '%d bytes read, %d written, sum %d, the last:\n%s' % (len(data), len(text), total, text[-60:]))
+
+
+def sheet(n, lines, step):
+    return b'(machine %d)\n' % n + b''.join(b'(part %d (in %d))\n' % (v, max(v - step, 0)) for v in range(lines))
+
+
+def long_lines():
+    head = b'(machine 1)\n(part 0 (in 0))\n(many' + 32 * b' 65535'
+    for title, tail in ((b'a line of 198 bytes', b')'), (b'a line of 200 bytes', b'  )'), (b'a line of 201 bytes', b'   )'),
+                        (b'a line of 33 numbers and 200 bytes', b' 0)')):
+        data = head + tail + b'\n(many 0)\n'
+        named = re.search(rb'(\d+) bytes', title).group(1)
+        assert len(data.split(b'\n')[2]) == int(named)
+        say(title, report(data))
+
+
+def sheets():
+    summary(b'512 parts in a star', sheet(512, 512, 512) + b'(pair 510 511)\n(pair 511 512)\n(many 1 511 0)\n')
+    summary(b'512 parts in a chain', sheet(512, 512, 1) + b'(pair 511 0)\n(pair 510 511)\n(pair 256 511)\n(many 511 300 400)\n')
+    summary(b'512 parts in two chains', sheet(512, 512, 2) + b'(pair 511 510)\n(pair 511 256)\n(pair 510 2)\n')
+    summary(b'512 parts, and 511 lines', sheet(512, 511, 1))
+    summary(b'512 parts, and 513 lines', sheet(512, 513, 1))
+    summary(b'513 parts in a chain', sheet(513, 513, 1))
+
+
+def limits():
+    data = KNOWN + 7268 * b'(many 3)\n'
+    assert len(data) == 65536
+    summary(b'an input of 65,536 bytes', data)
+    summary(b'an input of 65,535 bytes', data[:-1])
+    summary(b'an input of 65,537 bytes', data + b'\n')
+    summary(b'the most questions', KNOWN + 9344 * b'(many)\n')
+
+
+for name in ('machine.rt', 'line.rt', 'part.rt', 'question.rt'):
+    written(name)
+in_buffers(b'no input in its room', b'')
+in_buffers(b'a machine in its room', b'(machine 1)\n(part 0 (in 0))\n(pair 0 0)\n')
+long_lines()
+sheets()
+limits()
