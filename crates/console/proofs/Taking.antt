@@ -16,8 +16,9 @@ use Rattle.console.specs.Gives.{formOf, nextOf, Further, NextGives, Admi
 use Rattle.console.specs.declared.form.Question.{Question}
 use Rattle.console.specs.declared.form.Line.{Line}
 use Rattle.console.specs.declared.form.Line.the-variants.{Machine, Part, Asked}
+use Rattle.console.specs.declared.form.Reading.{Reading}
+use Rattle.console.specs.declared.form.Reading.the-variants.{Legible, Illegible}
 use Rattle.console.specs.declared.reader.Next.{Next}
-use Rattle.console.specs.declared.reader.Next.the-variants as taken
 use Rattle.console.specs.declared.sheet.Start.{Start}
 use Rattle.console.specs.declared.sheet.Start.the-variants as start
 use Rattle.console.specs.declared.sheet.Entry.the-variants as parent
@@ -36,21 +37,21 @@ next-taken take ls = refl
 
 module _ {A : Type 0} (take : Form → Option A) {input : List ℕ} {at : ℕ} {beside : List ℕ} {r : Next} (g : NextGives input at beside r) where
   -- what was read decides
-  by-reading : {r′ : Next} → r ≡ r′ → takenAs take (nextOf input beside r′) ≡ nextAs take (lines (drop at input))
-  by-reading e = ap (λ (x : Next). takenAs take (nextOf input beside x)) (sym e) ∙ ap (takenAs take) (g .is) ∙ sym (next-taken take (lines (drop at input)))
+  by-reading : {read : Reading} → r .line ≡ read → takenAs take (nextOf input beside (r .end) read) ≡ nextAs take (lines (drop at input))
+  by-reading e = ap (λ (x : Reading). takenAs take (nextOf input beside (r .end) x)) (sym e) ∙ ap (takenAs take) (g .is) ∙ sym (next-taken take (lines (drop at input)))
 
   -- a line was read that the place takes
-  takes : {l : Line} {end : ℕ} {a : A} → r ≡ taken.Took l end → take (formOf beside l) ≡ some a → some (a, lines (drop end input)) ≡ nextAs take (lines (drop at input))
+  takes : {l : Line} {a : A} → r .line ≡ Legible l → take (formOf beside l) ≡ some a → some (a, lines (drop (r .end) input)) ≡ nextAs take (lines (drop at input))
   unfolding takenAs bind
   takes e t = rw t at (by-reading e)
 
   -- one was read that the place does not take
-  takes-other : {l : Line} {end : ℕ} → r ≡ taken.Took l end → take (formOf beside l) ≡ none → none ≡ nextAs take (lines (drop at input))
+  takes-other : {l : Line} → r .line ≡ Legible l → take (formOf beside l) ≡ none → none ≡ nextAs take (lines (drop at input))
   unfolding takenAs bind
   takes-other e t = rw t at (by-reading e)
 
   -- none was read
-  takes-none : r ≡ taken.Illegible → none ≡ nextAs take (lines (drop at input))
+  takes-none : r .line ≡ Illegible → none ≡ nextAs take (lines (drop at input))
   unfolding takenAs bind
   takes-none e = by-reading e
 
@@ -63,19 +64,18 @@ no-start e = record { is = rw (sym e) refl; within = λ n end q. let z : _≡_ {
 
 module _ {input beside : List ℕ} {r : Next} (g : NextGives input 0 beside r) where
   -- no line was read
-  pub start-unread : r ≡ taken.Illegible → StartGives input (start.Refused (MalformedLine 1))
+  pub start-unread : r .line ≡ Illegible → StartGives input (start.Refused (MalformedLine 1))
   start-unread e = no-start (takes-none count g e)
 
   -- a line was read that is no machine's
-  pub start-other : {l k : Line} {end : ℕ} → r ≡ taken.Took l end → l ≡ k → count (formOf beside k) ≡ none → StartGives input (start.Refused (MalformedLine 1))
+  pub start-other : {l k : Line} → r .line ≡ Legible l → l ≡ k → count (formOf beside k) ≡ none → StartGives input (start.Refused (MalformedLine 1))
   start-other e same t = no-start (takes-other count g e (rw same t))
 
   -- a machine's was, whose count is tested
-  pub start-machine : {l : Line} {end n : ℕ} {s : Start} → r ≡ taken.Took l end → l ≡ Machine n → AdmitGives n end s → StartGives input s
+  pub start-machine : {l : Line} {n : ℕ} {s : Start} → r .line ≡ Legible l → l ≡ Machine n → AdmitGives n (r .end) s → StartGives input s
   unfolding count run Option·elim
-  start-machine {l} {end} {n} e k a =
+  start-machine {l} {n} e k a =
       let t : count (formOf beside l) ≡ some n = rw k refl in
-      let ends : Further input 0 end = g .further l end e in
       record {
         is = a .is input ∙ rw (sym (takes count g e t)) refl;
         within = λ m d q. let (some-parts, few, there) = a .within m d q in (some-parts, few, omega arith);
@@ -89,10 +89,10 @@ no-entry e = record { is = e; within = λ p end q. let z : _≡_ {A = ℕ} 0 1 =
 
 module _ {input beside : List ℕ} {at v : ℕ} {r : Next} (g : NextGives input at beside r) where
   -- no line was read
-  pub entry-unread : r ≡ taken.Illegible → EntryGives input at v parent.Illegible
+  pub entry-unread : r .line ≡ Illegible → EntryGives input at v parent.Illegible
   entry-unread e = no-entry (takes-none (entry v) g e)
 
-  module _ {l : Line} {end : ℕ} (e : r ≡ taken.Took l end) where
+  module _ {l : Line} (e : r .line ≡ Legible l) where
     -- a line was read that is no part's
     pub entry-none : ((w p : ℕ) → l ≡ Part w p → ⊥) → EntryGives input at v parent.Illegible
     entry-none f = no-entry (takes-other (entry v) g e (none-of l f))
@@ -108,11 +108,11 @@ module _ {input beside : List ℕ} {at v : ℕ} {r : Next} (g : NextGives input 
     entry-other k f = no-entry (takes-other (entry v) g e (rw (k, ne-eqb _ _ f) refl))
 
     -- the part's own was
-    pub entry-own : {w p : ℕ} → l ≡ Part w p → w ≡ v → EntryGives input at v (parent.Parent p end)
+    pub entry-own : {w p : ℕ} → l ≡ Part w p → w ≡ v → EntryGives input at v (parent.Parent p (r .end))
     unfolding entry
     entry-own k same = record {
       is = takes (entry v) g e (rw (k, eq-eqb _ _ same) refl);
-      within = λ q d f. let there : end ≡ d = cc in let ends : Further input at end = g .further l end e in omega arith;
+      within = λ q d f. let there : r .end ≡ d = cc in omega arith;
     }
 
 -- ---- a question line
@@ -127,10 +127,10 @@ no-question e = record {
 
 module _ {input beside : List ℕ} {at : ℕ} {r : Next} (g : NextGives input at beside r) where
   -- no line was read
-  pub question-unread : r ≡ taken.Illegible → AsksGive input at beside asks.Illegible
+  pub question-unread : r .line ≡ Illegible → AsksGive input at beside asks.Illegible
   question-unread e = no-question (takes-none query g e)
 
-  module _ {l : Line} {end : ℕ} (e : r ≡ taken.Took l end) where
+  module _ {l : Line} (e : r .line ≡ Legible l) where
     -- a line was read that is no question
     pub question-none : ((q : Question) → l ≡ Asked q → ⊥) → AsksGive input at beside asks.Illegible
     question-none f = no-question (takes-other query g e (none-of l f))
@@ -141,10 +141,10 @@ module _ {input beside : List ℕ} {at : ℕ} {r : Next} (g : NextGives input at
         none-of (Asked q) f = absurd (f q refl)
 
     -- a question was
-    pub question-own : {q : Question} → l ≡ Asked q → AsksGive input at beside (asks.Question q end)
+    pub question-own : {q : Question} → l ≡ Asked q → AsksGive input at beside (asks.Question q (r .end))
     unfolding query
     question-own {q} k = record {
       is = takes query g e (rw k refl);
-      further = λ q′ d f. let there : end ≡ d = cc in rw there at (g .further l end e);
-      within = λ q′ d f. let same : l ≡ Asked q′ = cc in rw same at (g .within l end e);
+      further = λ q′ d f. let there : r .end ≡ d = cc in let on : Further input at (r .end) = (g .further l e, g .ends) in rw there at on;
+      within = λ q′ d f. let same : l ≡ Asked q′ = cc in rw same at (g .within l e);
     }

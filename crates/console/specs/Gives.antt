@@ -26,7 +26,6 @@ use Rattle.console.specs.declared.form.Two.the-variants as two
 use Rattle.console.specs.declared.form.Numbers.{Numbers}
 use Rattle.console.specs.declared.form.Numbers.the-variants as numbers
 use Rattle.console.specs.declared.reader.Next.{Next}
-use Rattle.console.specs.declared.reader.Next.the-variants as taken
 use Rattle.console.specs.declared.sheet.Start.{Start}
 use Rattle.console.specs.declared.sheet.Start.the-variants as start
 use Rattle.console.specs.declared.sheet.Entry.{Entry}
@@ -84,19 +83,17 @@ pub record ReadGives (form : Option Form) (beside : List ℕ) (r : Reading) : Ty
 
 -- ---- the next line
 
--- a position of the input after another
-abbrev pub Further : List ℕ → ℕ → ℕ → Type 0
-Further input at end = (at < end) × (end ≤ length input)
+-- the line that stands before a position, and the lines after it
+abbrev pub nextOf : List ℕ → List ℕ → ℕ → Reading → Option (Form × Lines)
+nextOf input beside end (Legible l) = some (formOf beside l, lines (drop end input))
+nextOf input beside end Illegible = none
 
--- the line that stands at a position, and the lines after it
-abbrev pub nextOf : List ℕ → List ℕ → Next → Option (Form × Lines)
-nextOf input beside (taken.Took l end) = some (formOf beside l, lines (drop end input))
-nextOf input beside taken.Illegible = none
-
+-- what is taken at a position; the position after it is one of the input, whatever the line says
 pub record NextGives (input : List ℕ) (at : ℕ) (beside : List ℕ) (r : Next) : Type 0 where
-  pub is : nextOf input beside r ≡ next (lines (drop at input))
-  pub further : (l : Line) (end : ℕ) → r ≡ taken.Took l end → Further input at end
-  pub within : (l : Line) (end : ℕ) → r ≡ taken.Took l end → listedIn l ≤ length beside
+  pub is : nextOf input beside (r .end) (r .line) ≡ next (lines (drop at input))
+  pub further : (l : Line) → r .line ≡ Legible l → at < r .end
+  pub ends : r .end ≤ length input
+  pub within : (l : Line) → r .line ≡ Legible l → listedIn l ≤ length beside
 
 -- ---- the machine line
 
@@ -140,6 +137,10 @@ pub record EntriesGive (input : List ℕ) (at : ℕ) (s : List ℕ) (r : Entries
 abbrev pub asksOf : List ℕ → List ℕ → Asks → Option (Query × Lines)
 asksOf input beside (asks.Question q end) = some (queryOf beside q, lines (drop end input))
 asksOf input beside asks.Illegible = none
+
+-- a position of the input after another
+abbrev pub Further : List ℕ → ℕ → ℕ → Type 0
+Further input at end = (at < end) × (end ≤ length input)
 
 pub record AsksGive (input : List ℕ) (at : ℕ) (beside : List ℕ) (r : Asks) : Type 0 where
   pub is : asksOf input beside r ≡ nextAs query (lines (drop at input))

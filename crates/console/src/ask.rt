@@ -3,9 +3,9 @@
 use crate::form;
 use crate::form::Line;
 use crate::form::Question;
+use crate::form::Reading;
 use crate::print;
 use crate::reader;
-use crate::reader::Next;
 use tree::Outcome;
 use tree::Refusal;
 use tree::Traced;
@@ -61,13 +61,15 @@ fn question(input: &[u8], at: usize, beside: &mut [u16]) -> Asks
     requires { ⌜ (at ≤ length (now input)) × (mostListed ≤ length (now beside)) ⌝ }
     ensures { λ r. ⌜ AsksGive (now (input .entry)) at (now (beside .exit)) r ⌝ }
 {
-    let Next::Took(line, end) = reader::next_line(input, at, beside) else {
+    let next = reader::next_line(input, at, beside);
+    let reading = next.line;
+    let Reading::Legible(line) = reading else {
         return Asks::Illegible;
     };
     let Line::Asked(q) = line else {
         return Asks::Illegible;
     };
-    Asks::Question(q, end)
+    Asks::Question(q, next.end)
 }
 
 // Answers a question, whose list stands at the start of `beside`.

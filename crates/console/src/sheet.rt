@@ -2,8 +2,8 @@
 
 use crate::form;
 use crate::form::Line;
+use crate::form::Reading;
 use crate::reader;
-use crate::reader::Next;
 use tree::Refusal;
 ghost use Prim.Native.Nat.{_≤_};
 ghost use lib.ListN.{length};
@@ -36,11 +36,13 @@ pub(crate) fn machine_line(input: &[u8]) -> Start
     ensures { λ r. ⌜ StartGives (now (input .entry)) r ⌝ }
 {
     let mut beside = [0u16; form::MOST_LISTED];
-    let Next::Took(line, end) = reader::next_line(input, 0, &mut beside) else {
+    let next = reader::next_line(input, 0, &mut beside);
+    let reading = next.line;
+    let Reading::Legible(line) = reading else {
         return Start::Refused(Refusal::MalformedLine(1));
     };
     match line {
-        Line::Machine(n) => admit(n, end),
+        Line::Machine(n) => admit(n, next.end),
         Line::Part(_, _) => Start::Refused(Refusal::MalformedLine(1)),
         Line::Asked(_) => Start::Refused(Refusal::MalformedLine(1)),
     }
@@ -83,7 +85,9 @@ fn part_line(input: &[u8], at: usize, v: usize, beside: &mut [u16]) -> Entry
     requires { ⌜ (at ≤ length (now input)) × (mostListed ≤ length (now beside)) ⌝ }
     ensures { λ r. ⌜ EntryGives (now (input .entry)) at v r ⌝ }
 {
-    let Next::Took(line, end) = reader::next_line(input, at, beside) else {
+    let next = reader::next_line(input, at, beside);
+    let reading = next.line;
+    let Reading::Legible(line) = reading else {
         return Entry::Illegible;
     };
     let Line::Part(w, p) = line else {
@@ -92,5 +96,5 @@ fn part_line(input: &[u8], at: usize, v: usize, beside: &mut [u16]) -> Entry
     if w as usize != v {
         return Entry::Illegible;
     }
-    Entry::Parent(p, end)
+    Entry::Parent(p, next.end)
 }

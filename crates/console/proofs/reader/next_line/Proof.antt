@@ -1,7 +1,7 @@
 -- `console::reader::next_line` meets its contract: the line's end is looked for, and the bytes before it are read.
 -- Assumes nothing.
 use borrow.Author.Needs.{needs}
-use Rattle.console.proofs.NextLine.{takes-tail, takes-illegible, takes-line}
+use Rattle.console.proofs.NextLine.{takes-tail, takes-line}
 use Rattle.console.proofs.reader.next_line.Statement.{statement}
 use Rattle.console.proofs.reader.next_line.Tie as tie
 
@@ -23,30 +23,14 @@ part-read-end c = search needs
 read-requires : tie.Need-read-requires
 read-requires c κs = search needs
 
-enum-known-line : tie.Need-enum-known-line
-enum-known-line c = search needs
-
-add-t15 : tie.Need-add-t15
-add-t15 c = search needs
-
-enum-told : tie.Need-enum-told
-enum-told c = search needs
+add-t6 : tie.Need-add-t6
+add-t6 c = search needs
 
 same-length : tie.Need-same-length
 same-length c = search needs
 
 returns-2 : tie.Need-returns-2
-returns-2 c =
-    takes-line (c .before .before .before .before .before .before .before .before .before .line-end .ensures) (c .before .before .before .before .before .before .before .before .if1 .left)
-    (rw (c .before .line .given .1) at (c .before .before .before .before .before .read .ensures))
-
-same-length-2 : tie.Need-same-length-2
-same-length-2 c = search needs
-
-returns-3 : tie.Need-returns-3
-returns-3 c =
-    takes-illegible (c .before .before .before .before .before .before .before .before .line-end .ensures) (c .before .before .before .before .before .before .before .if1 .left)
-    (rw (c .enum-told .given .1) at (c .before .before .before .before .read .ensures))
+returns-2 c = takes-line (c .before .before .before .before .before .before .line-end .ensures) (c .before .before .before .before .before .if1 .left) (c .before .before .read .ensures)
 
 pub next-line-spec : {M : Type 1} → statement M
 next-line-spec =
@@ -58,10 +42,6 @@ next-line-spec =
     part-read-start
     part-read-end
     read-requires
-    enum-known-line
-    add-t15
-    enum-told
+    add-t6
     same-length
-    returns-2
-    same-length-2
-    returns-3)
+    returns-2)
