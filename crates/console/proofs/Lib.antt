@@ -16,3 +16,5 @@ pub mod Ending
 pub mod Answering
 pub mod Asking
 pub mod Testing
+pub mod LentWithin
+pub mod ReaderCalls
