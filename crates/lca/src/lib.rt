@@ -1,0 +1,220 @@
+// The calls of `tables` and `routes` for C, and for whatever calls C's functions: a slice is a pointer and its length in cells (include/lca.h). Each
+// returns the number of its refusal, 0 where it is accepted, and stores at `value` the refusal's place, or 0 where it is accepted; of an
+// accepted trail, the count of its lifts. What it does besides is what the library's call of that name does, by the same contract.
+
+use tree::Outcome;
+use tree::Refusal;
+use tree::Traced;
+ghost use mathlib.Core.Path.{_≡_};
+ghost use Rattle.tree.specs.Verdict.{numberOf, placeOf, verdictOf, tracedOf};
+ghost use Rattle.tree.specs.Routes.{byLabels, byTour};
+ghost use Rattle.tree.specs.Trail.{byLifts};
+ghost use Rattle.tables.specs.Check.{CheckGives};
+ghost use Rattle.tables.specs.Lend.{BuildGives, LentGives};
+ghost use Rattle.routes.specs.Answers.{PairsGive, TrailGives, ListGives};
+ghost use Rattle.lca.specs.Returned.{numberIn, valueIn, outcomeOf, Returned};
+
+// Checks a sheet: `tables::check`.
+#[no_mangle]
+pub extern "C" fn lca_check(parents: &[u16], work: &mut [u16], value: &mut u64) -> u32
+    ensures { λ number. ⌜ Returned outcomeOf (λ r. CheckGives (now (parents .entry)) (now (work .entry)) r (now (work .exit))) number (now (value .exit)) ⌝ }
+{
+    let r = tables::check(parents, work);
+    returned(r, value)
+}
+
+// Builds its tables: `tables::build`.
+#[no_mangle]
+pub extern "C" fn lca_build(
+    parents: &[u16],
+    label: &mut [u16],
+    tour: &mut [u16],
+    lift: &mut [u16],
+    work: &mut [u16],
+    value: &mut u64,
+) -> u32
+    ensures { λ number. ⌜ Returned outcomeOf
+        (λ r. BuildGives (record { parents = now (parents .entry); label = now (label .entry); tour = now (tour .entry); lift = now (lift .entry) })
+        (now (work .entry)) r (now (label .exit)) (now (tour .exit)) (now (lift .exit)) (now (work .exit)))
+        number (now (value .exit)) ⌝ }
+{
+    let r = tables::build(parents, label, tour, lift, work);
+    returned(r, value)
+}
+
+// Compares lent tables with it: `tables::compare`.
+#[no_mangle]
+pub extern "C" fn lca_compare(
+    parents: &[u16],
+    label: &[u16],
+    tour: &[u16],
+    lift: &[u16],
+    work: &mut [u16],
+    value: &mut u64,
+) -> u32
+    ensures { λ number. ⌜ Returned outcomeOf
+        (λ r. LentGives (record { parents = now (parents .entry); label = now (label .entry); tour = now (tour .entry); lift = now (lift .entry) })
+        0 (now (work .entry)) r (now (work .exit)))
+        number (now (value .exit)) ⌝ }
+{
+    let r = tables::compare(parents, label, tour, lift, work);
+    returned(r, value)
+}
+
+// The carrier of each pair by labels: `routes::pairs_by_labels`.
+#[no_mangle]
+pub extern "C" fn lca_pairs_by_labels(
+    parents: &[u16],
+    label: &[u16],
+    tour: &[u16],
+    lift: &[u16],
+    work: &mut [u16],
+    question: &[u16],
+    answer: &mut [u16],
+    value: &mut u64,
+) -> u32
+    ensures { λ number. ⌜ Returned outcomeOf (λ r. PairsGive byLabels (record {
+      lent = record { parents = now (parents .entry); label = now (label .entry); tour = now (tour .entry); lift = now (lift .entry) };
+      work = now (work .entry);
+      question = now (question .entry);
+      answer = now (answer .entry);
+    })
+        r (now (work .exit)) (now (answer .exit))) number (now (value .exit)) ⌝ }
+{
+    let r = routes::pairs_by_labels(parents, label, tour, lift, work, question, answer);
+    returned(r, value)
+}
+
+// The same by the tour: `routes::pairs_by_tour`.
+#[no_mangle]
+pub extern "C" fn lca_pairs_by_tour(
+    parents: &[u16],
+    label: &[u16],
+    tour: &[u16],
+    lift: &[u16],
+    work: &mut [u16],
+    question: &[u16],
+    answer: &mut [u16],
+    value: &mut u64,
+) -> u32
+    ensures { λ number. ⌜ Returned outcomeOf (λ r. PairsGive byTour (record {
+      lent = record { parents = now (parents .entry); label = now (label .entry); tour = now (tour .entry); lift = now (lift .entry) };
+      work = now (work .entry);
+      question = now (question .entry);
+      answer = now (answer .entry);
+    })
+        r (now (work .exit)) (now (answer .exit))) number (now (value .exit)) ⌝ }
+{
+    let r = routes::pairs_by_tour(parents, label, tour, lift, work, question, answer);
+    returned(r, value)
+}
+
+// The same by lifts: `routes::pairs_by_lifts`.
+#[no_mangle]
+pub extern "C" fn lca_pairs_by_lifts(
+    parents: &[u16],
+    label: &[u16],
+    tour: &[u16],
+    lift: &[u16],
+    work: &mut [u16],
+    question: &[u16],
+    answer: &mut [u16],
+    value: &mut u64,
+) -> u32
+    ensures { λ number. ⌜ Returned outcomeOf (λ r. PairsGive byLifts (record {
+      lent = record { parents = now (parents .entry); label = now (label .entry); tour = now (tour .entry); lift = now (lift .entry) };
+      work = now (work .entry);
+      question = now (question .entry);
+      answer = now (answer .entry);
+    })
+        r (now (work .exit)) (now (answer .exit))) number (now (value .exit)) ⌝ }
+{
+    let r = routes::pairs_by_lifts(parents, label, tour, lift, work, question, answer);
+    returned(r, value)
+}
+
+// The carrier of a list: `routes::list`.
+#[no_mangle]
+pub extern "C" fn lca_list(
+    parents: &[u16],
+    label: &[u16],
+    tour: &[u16],
+    lift: &[u16],
+    work: &mut [u16],
+    question: &[u16],
+    answer: &mut [u16],
+    value: &mut u64,
+) -> u32
+    ensures { λ number. ⌜ Returned outcomeOf (λ r. ListGives (record {
+      lent = record { parents = now (parents .entry); label = now (label .entry); tour = now (tour .entry); lift = now (lift .entry) };
+      work = now (work .entry);
+      question = now (question .entry);
+      answer = now (answer .entry);
+    })
+        r (now (work .exit)) (now (answer .exit))) number (now (value .exit)) ⌝ }
+{
+    let r = routes::list(parents, label, tour, lift, work, question, answer);
+    returned(r, value)
+}
+
+// The trail of one pair: `routes::trail`.
+#[no_mangle]
+pub extern "C" fn lca_trail(
+    parents: &[u16],
+    label: &[u16],
+    tour: &[u16],
+    lift: &[u16],
+    work: &mut [u16],
+    question: &[u16],
+    answer: &mut [u16],
+    trail: &mut [u16],
+    value: &mut u64,
+) -> u32
+    ensures { λ number. ⌜ Returned tracedOf (λ r. TrailGives (record {
+      lent = record { parents = now (parents .entry); label = now (label .entry); tour = now (tour .entry); lift = now (lift .entry) };
+      work = now (work .entry);
+      question = now (question .entry);
+      answer = now (answer .entry);
+    })
+        (now (trail .entry)) r (now (work .exit)) (now (answer .exit)) (now (trail .exit))) number (now (value .exit)) ⌝ }
+{
+    let r = routes::trail(parents, label, tour, lift, work, question, answer, trail);
+    traced(r, value)
+}
+
+// An outcome as C sees it.
+fn returned(r: Outcome, value: &mut u64) -> u32
+    ensures { λ number. ⌜ (number ≡ numberIn (verdictOf r)) × (now (value .exit) ≡ valueIn (verdictOf r) 0) ⌝ }
+{
+    match r {
+        Outcome::Accepted => accept(0, value),
+        Outcome::Refused(why) => refuse(why, value),
+    }
+}
+
+// A trace as C sees it.
+fn traced(r: Traced, value: &mut u64) -> u32
+    ensures { λ number. ⌜ (number ≡ numberIn (tracedOf r .0)) × (now (value .exit) ≡ valueIn (tracedOf r .0) (tracedOf r .1)) ⌝ }
+{
+    match r {
+        Traced::Lifts(count) => accept(count, value),
+        Traced::Refused(why) => refuse(why, value),
+    }
+}
+
+// An accepted call, with what it counts.
+fn accept(count: usize, value: &mut u64) -> u32
+    ensures { λ number. ⌜ (number ≡ 0) × (now (value .exit) ≡ count) ⌝ }
+{
+    *value = count as u64;
+    0
+}
+
+// A refusal: its number, and no bit of its place is lost.
+fn refuse(why: Refusal, value: &mut u64) -> u32
+    ensures { λ number. ⌜ (number ≡ numberOf why) × (now (value .exit) ≡ placeOf why) ⌝ }
+{
+    let at = why.number_and_place();
+    *value = at.place as u64;
+    at.number as u32
+}
