@@ -1,33 +1,45 @@
 -- The walk: which node comes after which, and what work holds when it does.
 -- Assumes nothing.
-use Prim.Native.Nat.{ℕ, suc, _+_, _-_, _*_, _≤_, _<_, zero-le}
-use native.Mathlib.Nat.{le-of-eq}
-use native.Mathlib.Numerals.{add-one}
+use Prim.Native.Nat.{ℕ, zero, suc, _+_, _-_, _*_, _≤_, _<_, zero-le}
+use native.Mathlib.Nat.{le-refl, not-suc-le-zero, le-of-suc-le-suc}
 use native.Mathlib.Omega.{arith}
 use mathlib.Core.Path.{_≡_, refl, sym, ap, _∙_, subst}
 use mathlib.Core.Logic.{_≢_, _⊎_, inl, inr, ⊎-elim}
-use mathlib.Core.Bool.{Bool, false, cond}
-use mathlib.Core.List.{List}
+use mathlib.Core.Bool.{Bool, true≢false, false, cond}
+use mathlib.Core.List.{List, [], _∷_}
+use borrow.Author.Tests.{lt-ltb, le-ltb}
 use lib.Dec.{lit<}
-use lib.ListN.{length, getD, set, length-set}
+use lib.ListN.{length, getD, set, List·getD-eq-default}
 use lib.Seq.{getD-set-other}
-use Rattle.tree.specs.Tree.{parent, Ancestor, isRoot, Tree}
-use Rattle.tree.specs.Preorder.{isChild, preorderNumber, size, childSum}
+use Rattle.tree.specs.Tree.{parent, isRoot, Tree}
+use Rattle.tree.specs.Preorder.{isChild, preorder, preorderNumber, size, childSum}
 use Rattle.tree.specs.Labels.{labelTable}
 use Rattle.tree.specs.Sections.{Same}
+use Rattle.tree.specs.Ready.{Ready}
 use Rattle.tree.proofs.Scans.{by-equal, by-order, by-test, least-from}
-use Rattle.tree.proofs.Roots.{root-is}
+use Rattle.tree.proofs.Roots.{root-is, is-root}
 use Rattle.tree.proofs.Trees.{root-found}
 use Rattle.tree.proofs.PreorderList.{Child, child-test, test-child}
 use Rattle.tree.proofs.Sums.{sum-zero, sum-child, sum-gap}
-use Rattle.tree.proofs.Sizes.{size-sum, size-root, preorder-root, preorder-child, preorder-most, preorder-injective, preorder-pos}
-use Rattle.tree.proofs.Intervals.{carried-to, interval-carried}
-use Rattle.tree.proofs.Climbs.{climb-stays, ancestor-parent, ancestor-above, ancestor-trans}
-use Rattle.tree.proofs.Inlabels.{size-pos}
+use Rattle.tree.proofs.Sizes.{size-sum, size-root, preorder-root, preorder-child, preorder-parent, preorder-most, preorder-injective, preorder-pos, preorder-length, preorder-at, preorder-part, preorder-number-at}
+use Rattle.tree.proofs.Intervals.{carried-to}
 use Rattle.tree.proofs.Cells.{label-cell}
-use Rattle.tree.proofs.Columns.{ready-kept}
-use Rattle.tree.proofs.Differences.{store-here, store-either}
-use Rattle.labels.specs.Walk.{lowestChild, Links, Numbered, Walks, Next, Leaves, Left}
+use Rattle.labels.specs.Walk.{lowestChild, nextSibling, Links, Walks, firstOf, nodeAt, nodeAfter, Numbered, endOf}
+use Rattle.labels.proofs.Filling.{Filling, filling-store, filling-keep}
+use Rattle.labels.proofs.Tops.{root-node}
+
+-- the first is there, or is none
+first-some : {n : ℕ} (a b : ℕ) → a < n → firstOf n a b ≡ a
+first-some {n} a b h = ap (λ (t : Bool). cond t a b) (lt-ltb a n h)
+
+first-none : {n : ℕ} (a b : ℕ) → n ≤ a → firstOf n a b ≡ b
+first-none {n} a b h = ap (λ (t : Bool). cond t a b) (le-ltb a n h)
+
+-- what stands in a list does not depend on what stands beyond it
+inside-default : (l : List ℕ) (i a b : ℕ) → i < length l → getD l i a ≡ getD l i b
+inside-default [] i a b h = absurd (not-suc-le-zero h)
+inside-default (x ∷ xs) zero a b h = refl
+inside-default (x ∷ xs) (suc i) a b h = inside-default xs i a b (le-of-suc-le-suc h)
 
 -- a child with none before it, or none at all
 record Lowest (s : List ℕ) (v i c : ℕ) : Type 0 where
@@ -51,7 +63,7 @@ links-keep {s} {work} p y h l = record {
   next = λ v b. getD-set-other work p (length s + v) y 0 (λ e. absurd (omega arith)) ∙ l .next v b;
 }
 
--- ---- the next node
+-- ---- the numbers of a node's child and next sibling
 
 module _ {s : List ℕ} (t : Tree s) where
   not-itself : {v c : ℕ} → Child s v c → parent s c ≢ c
@@ -94,191 +106,200 @@ module _ {s : List ℕ} (t : Tree s) where
       let g = past (length s) k h (lowest-none s p (suc v) h b) in
       omega arith
 
--- ---- the walk goes on
+  -- ---- the next node
+
+  -- a node stands where its number says
+  at-number : (v k : ℕ) → v < length s → preorderNumber s v ≡ suc k → nodeAt s k ≡ v
+  at-number v k h e =
+      let most = preorder-most t v h in
+      let long = preorder-length t in
+      let here : preorderNumber s v - 1 ≡ k = omega arith in
+      inside-default (preorder s) k (length s) 0 (omega arith) ∙ ap (λ (i : ℕ). getD (preorder s) i 0) (sym here) ∙ preorder-at t v h
+
+  -- a place below n has a node, of the number that is one more
+  pub at-node : (k : ℕ) → k < length s → (nodeAt s k < length s) × (preorderNumber s (nodeAt s k) ≡ suc k)
+  at-node k h =
+      let long = preorder-length t in
+      let same : nodeAt s k ≡ getD (preorder s) k 0 = inside-default (preorder s) k (length s) 0 (omega arith) in
+      (rw same (preorder-part t k h), rw same (preorder-number-at t k h))
+
+  -- no other has
+  at-none : (k : ℕ) → length s ≤ k → nodeAt s k ≡ length s
+  at-none k h = let long = preorder-length t in List·getD-eq-default (preorder s) (length s) (omega arith)
+
+  -- the numbers end with n
+  ends : (v : ℕ) → v < length s → preorderNumber s v + size s v ≤ suc (length s)
+  ends v h =
+      let within = carried-to t h (t .reach v h) in
+      let first = preorder-root t in
+      let all = size-root t in
+      omega arith
+
+  -- after all that v carries comes its next sibling, or else what comes after its parent
+  pub after-is : (v : ℕ) → v < length s → firstOf (length s) (nextSibling s v) (nodeAfter s (parent s v)) ≡ nodeAfter s v
+  after-is v h =
+      let p = parent s v in
+      by-test (isRoot s v)
+      (λ r. rw r (first-none (length s) _ (le-refl _) ∙ ap (nodeAfter s) (root-is s v r)))
+      (λ r. rw r (
+      let k : Child s p v = record { of = refl; other = λ e. absurd (true≢false (sym (is-root s v (sym e)) ∙ r)) } in
+      let w = lowestChild s p (suc v) in
+      by-order (length s) w
+      (λ b.
+      let last = last-ends (t .inside v h) h k b in
+      let pv = preorder-pos s v in
+      let pp = preorder-pos s p in
+      let same : preorderNumber s p - 1 + size s p ≡ preorderNumber s v - 1 + size s v = omega arith in
+      first-none w _ b ∙ ap (nodeAt s) same)
+      (λ b.
+      let number = sibling-number h k (lowest-child s p (suc v) h b) in
+      let pv = preorder-pos s v in
+      first-some w _ b ∙ sym (at-number w (preorderNumber s v - 1 + size s v) b (omega arith)))))
+
+  -- after v comes its lowest child, or else what comes after all that it carries
+  pub next-is : (v : ℕ) → v < length s → firstOf (length s) (lowestChild s v 0) (nodeAfter s v) ≡ nodeAt s (preorderNumber s v)
+  next-is v h =
+      let c = lowestChild s v 0 in
+      by-order (length s) c
+      (λ b.
+      let one = childless-size v h b in
+      let pv = preorder-pos s v in
+      let same : preorderNumber s v - 1 + size s v ≡ preorderNumber s v = omega arith in
+      first-none c _ b ∙ ap (nodeAt s) same)
+      (λ b. first-some c _ b ∙ sym (at-number c (preorderNumber s v) b (first-number (lowest-child s v 0 zero-le b))))
+
+-- ---- the walk
+
+-- the first k nodes are numbered, and the node after each of them is known; nothing comes after the root
+pub record Walking (s work : List ℕ) (k : ℕ) : Type 0 where
+  pub links : Links s work
+  pub number : Filling s work (2 * length s) (preorderNumber s) (λ x. preorderNumber s x ≤ k)
+  pub after : Filling s work (3 * length s) (nodeAfter s) (λ x. (parent s x ≡ x) ⊎ (preorderNumber s x ≤ k))
 
 -- before the first node
-pub numbered-start : {s work : List ℕ} {root : ℕ} → Walks s root work → Numbered s work 0 1 × Next s 0 root
-numbered-start {s} {work} {root} w =
+pub walking-start : {s work : List ℕ} {root : ℕ} → Walks s root work → Walking s (set work (3 * length s + root) (length s)) 0 × (root ≡ nodeAt s 0)
+walking-start {s} {work} {root} w =
     let t = w .ready .tree in
-    let e : root ≡ t .root = w .is ∙ sym (root-found t) in (
+    let room = w .ready .room in
+    let e : root ≡ t .root = w .is ∙ sym (root-found t) in
+    let h = root-node (w .ready) (w .is) in
+    let first : preorderNumber s root ≡ 1 = ap (preorderNumber s) e ∙ preorder-root t in
+    let all : size s root ≡ length s = ap (size s) e ∙ size-root t in
+    let p = 3 * length s + root in
+    let blank : Filling s work (3 * length s) (nodeAfter s) (λ _. ⊥) = record { room = room; cell = λ x hx k. absurd k } in
+    let none : Filling s work (2 * length s) (preorderNumber s) (λ x. preorderNumber s x ≤ 0) = record {
+      room = room;
+      cell = λ x hx b. let pos = preorder-pos s x in absurd (omega arith);
+    } in (
       record {
-        ready = w .ready;
-        links = w .links;
-        numbers = λ x h b. let pos = preorder-pos s x in absurd (omega arith);
-        sizes = λ x h b. let pos = preorder-pos s x in let some = size-pos t x h in absurd (omega arith);
+        links = links-keep p (length s) (omega arith) (w .links);
+        number = filling-keep none p (length s) (λ x hx b. (b, λ g. absurd (omega arith)));
+        after = filling-store blank root refl (omega arith) (sym (at-none t (preorderNumber s root - 1 + size s root) (omega arith)))
+            (λ x hx k. inl (⊎-elim (λ top. t .root-only x hx top ∙ sym e) (λ b. let pos = preorder-pos s x in absurd (omega arith)) k));
       },
-      record { node = λ _. rw e (t .root-inside); number = λ _. rw e (preorder-root t) },
+      sym (at-number t root 0 h first),
     )
 
--- the next node is numbered
-pub numbered-more : {s work : List ℕ} {k v : ℕ} → k < length s → Next s k v → Numbered s work k (suc k)
-    → Numbered s (set work (2 * length s + v) (k + 1)) (k + 1) (k + 1)
-numbered-more {s} {work} {k} {v} b next l =
-    rw add-one (
-    let t = l .ready .tree in
-    let h = next .node b in
-    let p = 2 * length s + v in
-    let room = l .ready .room in
-    let inside : p < length work = omega arith in
-    record {
-      ready = ready-kept (l .ready) (length-set work p (suc k));
-      links = links-keep p (suc k) (omega arith) (l .links);
-      numbers = λ x hx m.
-          store-either work p (suc k) (2 * length s + x) _ inside
-          (λ q. let same : x ≡ v = omega arith in sym (next .number b) ∙ ap (preorderNumber s) (sym same))
-          (λ q.
-          let other : preorderNumber s x ≢ suc k = λ e.
-          q (ap (λ (u : ℕ). 2 * length s + u) (preorder-injective t x v hx h (e ∙ sym (next .number b)))) in
-          l .numbers x hx (omega arith));
-      sizes = λ x hx m. getD-set-other work p (3 * length s + x) (suc k) 0 (λ e. absurd (omega arith)) ∙ l .sizes x hx m;
-    })
+-- node k of the preorder is v
+module _ {s work : List ℕ} {k v : ℕ} (t : Tree s) (b : k < length s) (is : v ≡ nodeAt s k) (w : Walking s work k) where
+  pub walking-node : (v < length s) × (preorderNumber s v ≡ suc k)
+  walking-node = rw is (at-node t k b)
 
--- it has a child: no node's interval ends with it, and the child is next
-pub numbered-down : {s work : List ℕ} {k v : ℕ} → v < length s → preorderNumber s v ≡ k → Numbered s work k k → lowestChild s v 0 < length s
-    → Numbered s work k (suc k) × Next s k (lowestChild s v 0)
-numbered-down {s} {work} {k} {v} h e l b =
-    let t = l .ready .tree in
-    let c = lowest-child s v 0 zero-le b in
-    let number = first-number t c in
-    let carried : Ancestor s v (lowestChild s v 0) = subst (λ (u : ℕ). Ancestor s u (lowestChild s v 0)) (c .is .of) (ancestor-parent s (lowestChild s v 0)) in
-    let within = carried-to t (c .node) carried in
-    let some = size-pos t _ (c .node) in (
+  -- the node after it
+  walking-after : {a : ℕ} → a ≡ firstOf (length s) (getD (set work (2 * length s + v) (k + 1)) (length s + v) 0) (getD work (3 * length s + parent s v) 0)
+      → a ≡ nodeAfter s v
+  walking-after e =
+      let (h, number) = walking-node in
+      let sibling = links-keep (2 * length s + v) (k + 1) (omega arith) (w .links) .next v h in
+      let above : getD work (3 * length s + parent s v) 0 ≡ nodeAfter s (parent s v) =
+      w .after .cell (parent s v) (t .inside v h)
+      (by-equal (parent s v) v (λ q. inl (ap (parent s) q)) (λ q. let up = preorder-parent t v h q in inr (omega arith))) in
+      e ∙ rw (sibling, above) (after-is t v h)
+
+  -- it is numbered, and the node after it stored
+  pub walking-step : {a : ℕ} → a ≡ firstOf (length s) (getD (set work (2 * length s + v) (k + 1)) (length s + v) 0) (getD work (3 * length s + parent s v) 0)
+      → Walking s (set (set work (2 * length s + v) (k + 1)) (3 * length s + v) a) (k + 1)
+  walking-step {a} e =
+      let (h, number) = walking-node in
+      let p = 2 * length s + v in
+      let q = 3 * length s + v in
+      let next : (x : ℕ) → x < length s → preorderNumber s x ≤ k + 1 → (x ≡ v) ⊎ (preorderNumber s x ≤ k) = λ x hx m.
+      by-equal (preorderNumber s x) (suc k) (λ g. inl (preorder-injective t x v hx h (g ∙ sym number))) (λ g. inr (omega arith)) in
       record {
-        ready = l .ready;
-        links = l .links;
-        numbers = l .numbers;
-        sizes = λ x hx m.
-            by-equal (preorderNumber s x + size s x) (suc k)
-            (λ q.
-            let pos = size-pos t x hx in
-            let above : Ancestor s x v = interval-carried t hx h (omega arith) (omega arith) in
-            let more = carried-to t h above in
-            absurd (omega arith))
-            (λ q. l .sizes x hx (omega arith));
-      },
-      record { node = λ _. c .node; number = λ _. number ∙ ap suc e },
-    )
+        links = links-keep q a (omega arith) (links-keep p (k + 1) (omega arith) (w .links));
+        number = filling-keep (filling-store (w .number) v refl (omega arith) (omega arith) next) q a (λ x hx m. (m, λ g. absurd (omega arith)));
+        after = filling-store (filling-keep (w .after) p (k + 1) (λ x hx m. (m, λ g. absurd (omega arith)))) v refl (omega arith) (walking-after e)
+            (λ x hx m. ⊎-elim (λ top. inr (inl top)) (λ m. ⊎-elim inl (λ below. inr (inr below)) (next x hx m)) m);
+      }
 
--- ---- nodes are left
+  -- then comes the next
+  pub walking-next : {a u : ℕ} → a ≡ firstOf (length s) (getD (set work (2 * length s + v) (k + 1)) (length s + v) 0) (getD work (3 * length s + parent s v) 0)
+      → u ≡ firstOf (length s) (getD (set (set work (2 * length s + v) (k + 1)) (3 * length s + v) a) v 0) a → u ≡ nodeAt s (k + 1)
+  walking-next {a} e f =
+      let (h, number) = walking-node in
+      let child = walking-step e .links .child v h in
+      let same : preorderNumber s v ≡ k + 1 = omega arith in
+      f ∙ rw (child, walking-after e, ← same) (next-is t v h)
 
--- u has been left, and so has every node whose interval ends with u's, but for those that carry u
-pub record Leaving (s work : List ℕ) (k u : ℕ) : Type 0 where
-  pub numbered : Numbered s work k k
-  pub node : u < length s
-  pub ends : preorderNumber s u + size s u ≡ suc k
-  pub unless : (x : ℕ) → x < length s → preorderNumber s x + size s x ≡ suc k → (getD work (3 * length s + x) 0 ≡ size s x) ⊎ (Ancestor s x u × (x ≢ u))
+-- all nodes are numbered
+pub walking-end : {s work : List ℕ} → Tree s → Walking s work (length s) → Numbered s work
+walking-end t w = record { number = λ v h. w .number .cell v h (preorder-most t v h); after = λ v h. w .after .cell v h (inr (preorder-most t v h)) }
 
--- u is left
-leaving-close : {s work : List ℕ} {k u : ℕ} → Numbered s work k k → u < length s → preorderNumber s u + size s u ≡ suc k
-    → ((x : ℕ) → x < length s → preorderNumber s x + size s x ≡ suc k → (getD work (3 * length s + x) 0 ≡ size s x) ⊎ Ancestor s x u)
-    → Leaving s (set work (3 * length s + u) (suc k - getD work (2 * length s + u) 0)) k u
-leaving-close {s} {work} {k} {u} l h ends unless =
-    let t = l .ready .tree in
-    let p = 3 * length s + u in
-    let y = suc k - getD work (2 * length s + u) 0 in
-    let room = l .ready .room in
-    let inside : p < length work = omega arith in
-    let some = size-pos t u h in
-    let number : getD work (2 * length s + u) 0 ≡ preorderNumber s u = l .numbers u h (omega arith) in
-    let value : y ≡ size s u = omega arith in
-    let same : (x : ℕ) → 3 * length s + x ≡ p → y ≡ size s x = λ x q. let e : u ≡ x = omega arith in value ∙ ap (size s) e in
-    record {
-      numbered = record {
-        ready = ready-kept (l .ready) (length-set work p y);
-        links = links-keep p y (omega arith) (l .links);
-        numbers = λ x hx m. getD-set-other work p (2 * length s + x) y 0 (λ e. absurd (omega arith)) ∙ l .numbers x hx m;
-        sizes = λ x hx m. store-either work p y (3 * length s + x) _ inside (same x) (λ _. l .sizes x hx m);
-      };
-      node = h;
-      ends = ends;
-      unless = λ x hx e.
-          by-equal x u (λ q. inl (store-here work p y (3 * length s + x) _ inside (ap (λ (i : ℕ). 3 * length s + i) q) (value ∙ ap (size s) (sym q))))
-          (λ q. ⊎-elim (λ done. inl (store-either work p y (3 * length s + x) _ inside (same x) (λ _. done))) (λ above. inr (above, q)) (unless x hx e));
-    }
+-- ---- SIZE
 
--- the last node numbered is left first
-pub leaving-start : {s work : List ℕ} {v k : ℕ} → Leaves s v k work → Leaving s (set work (3 * length s + v) (suc k - getD work (2 * length s + v) 0)) k v
-leaving-start {s} {work} {v} {k} l =
-    let t = l .numbered .ready .tree in
-    let one = childless-size t v (l .node) (l .childless) in
-    let number = l .number in
-    leaving-close (l .numbered) (l .node) (omega arith)
-    (λ x hx e. let some = size-pos t x hx in inr (interval-carried t hx (l .node) (omega arith) (omega arith)))
+-- the nodes below v have their SIZE, and the others the node after them
+pub record Measuring (s work : List ℕ) (v : ℕ) : Type 0 where
+  pub number : Filling s work (2 * length s) (preorderNumber s) (λ x. x < length s)
+  pub size : Filling s work (3 * length s) (size s) (λ x. x < v)
+  pub after : Filling s work (3 * length s) (nodeAfter s) (λ x. v ≤ x)
 
--- what the cell of u's next sibling says
-sibling-cell : {s work : List ℕ} {k u : ℕ} → Leaving s work k u → parent s u ≢ u → getD work (length s + u) 0 ≡ lowestChild s (parent s u) (suc u)
-sibling-cell {s} {work} {k} {u} l q =
-    let other : isRoot s u ≡ false = by-test (isRoot s u) (λ r. absurd (q (root-is s u r))) (λ r. r) in
-    l .numbered .links .next u (l .node) ∙ ap (λ (r : Bool). cond r (length s) (lowestChild s (parent s u) (suc u))) other
+pub measuring-start : {s work : List ℕ} → Ready s work → Numbered s work → Measuring s work 0
+measuring-start r d = record {
+  number = record { room = r .room; cell = λ x h _. d .number x h };
+  size = record { room = r .room; cell = λ x h b. absurd (omega arith) };
+  after = record { room = r .room; cell = λ x h _. d .after x h };
+}
 
--- .. then its parent, where u is the last child
-pub leaving-up : {s work : List ℕ} {k u : ℕ} → Leaving s work k u → getD work (length s + u) 0 ≡ length s → parent s u ≢ u
-    → Leaving s (set work (3 * length s + parent s u) (suc k - getD work (2 * length s + parent s u) 0)) k (parent s u)
-leaving-up {s} {work} {k} {u} l e q =
-    let t = l .numbered .ready .tree in
-    let hp = t .inside u (l .node) in
-    let last = last-ends t hp (l .node) (record { of = refl; other = λ g. q (sym g) }) (le-of-eq (sym e ∙ sibling-cell l q)) in
-    leaving-close (l .numbered) hp (last ∙ l .ends) (λ x hx g. ⊎-elim inl (λ a. inr (ancestor-above (a .0) (a .1))) (l .unless x hx g))
+module _ {s work : List ℕ} {v : ℕ} (t : Tree s) (h : v < length s) (m : Measuring s work v) where
+  -- all that v carries ends before the number of the node after
+  pub measuring-ends : endOf work (length s) (getD work (3 * length s + v) 0) ≡ getD work (2 * length s + v) 0 + size s v
+  measuring-ends =
+      let number : getD work (2 * length s + v) 0 ≡ preorderNumber s v = m .number .cell v h h in
+      let after : getD work (3 * length s + v) 0 ≡ nodeAfter s v = m .after .cell v h (le-refl v) in
+      let pos = preorder-pos s v in
+      let last = ends t v h in
+      let k = preorderNumber s v - 1 + size s v in
+      rw (number, after)
+      (by-order (length s) k
+      (λ b.
+      let none = at-none t k b in
+      let far : preorderNumber s v + size s v ≡ length s + 1 = omega arith in
+      rw (none, le-ltb (length s) (length s) (le-refl _)) (sym far))
+      (λ b.
+      let (node, is) = at-node t k b in
+      rw (lt-ltb (nodeAt s k) (length s) node) (m .number .cell (nodeAt s k) node node ∙ is ∙ omega arith)))
 
--- .. up to a node with a next sibling, or to the root
-pub leaving-end : {s work : List ℕ} {k u : ℕ} → Leaving s work k u → (getD work (length s + u) 0 ≢ length s) ⊎ (parent s u ≡ u)
-    → Left s k (getD work (length s + u) 0) work
-leaving-end {s} {work} {k} {u} l stop =
-    let t = l .numbered .ready .tree in
-    let h = l .node in
-    by-equal (parent s u) u
-    (λ e.
-    let root : u ≡ t .root = t .root-only u h e in
-    let first : preorderNumber s u ≡ 1 = ap (preorderNumber s) root ∙ preorder-root t in
-    let all : size s u ≡ length s = ap (size s) root ∙ size-root t in
-    let ends = l .ends in
-    left (λ x hx g a q. absurd (q (sym (a .reaches) ∙ climb-stays s (a .steps) u e)))
-    (record { node = λ b. absurd (omega arith); number = λ b. absurd (omega arith) }))
-    (λ q.
-    let cell = sibling-cell l q in
-    let w = lowestChild s (parent s u) (suc u) in
-    let most = least-from (isChild s (parent s u)) (suc u) (length s - suc u) .to in
-    let some : w < length s = ⊎-elim (λ other. let n : w ≢ length s = λ g. other (cell ∙ g) in omega arith) (λ e. absurd (q e)) stop in
-    let c = lowest-child s (parent s u) (suc u) h some in
-    let number = sibling-number t h (record { of = refl; other = λ g. q (sym g) }) c in
-    let pos = size-pos t w (c .node) in
-    left
-    (λ x hx g a other.
-    let up : Ancestor s x w = ancestor-trans (ancestor-above a other) (subst (λ (p : ℕ). Ancestor s p w) (c .is .of) (ancestor-parent s w)) in
-    let within = carried-to t (c .node) up in
-    let ends = l .ends in
-    absurd (omega arith))
-    (rw cell (record { node = λ _. c .node; number = λ _. number ∙ l .ends })))
-  where
-    left : ((x : ℕ) → x < length s → preorderNumber s x + size s x ≡ suc k → Ancestor s x u → x ≢ u → ⊥) → Next s k (getD work (length s + u) 0)
-        → Left s k (getD work (length s + u) 0) work
-    left none next = record {
-      numbered = record {
-        ready = l .numbered .ready;
-        links = l .numbered .links;
-        numbers = l .numbered .numbers;
-        sizes = λ x hx m.
-            by-equal (preorderNumber s x + size s x) (suc k) (λ e. ⊎-elim (λ done. done) (λ a. absurd (none x hx e (a .0) (a .1))) (l .unless x hx e))
-            (λ e. l .numbered .sizes x hx (omega arith));
-      };
-      next = next;
-    }
+  -- .. so the distance to it is SIZE
+  pub measuring-step : {r : ℕ} → r ≡ endOf work (length s) (getD work (3 * length s + v) 0)
+      → Measuring s (set work (3 * length s + v) (r - getD work (2 * length s + v) 0)) (v + 1)
+  measuring-step {r} e =
+      let long : r ≡ getD work (2 * length s + v) 0 + size s v = e ∙ measuring-ends in
+      let q = 3 * length s + v in
+      let y = r - getD work (2 * length s + v) 0 in
+      record {
+        number = filling-keep (m .number) q y (λ x hx b. (b, λ g. absurd (omega arith)));
+        size = filling-store (m .size) v refl (omega arith) (omega arith) (λ x hx b. by-equal x v inl (λ g. inr (omega arith)));
+        after = filling-keep (m .after) q y (λ x hx b. (omega arith, λ g. absurd (omega arith)));
+      }
 
--- ---- the end
-
--- all nodes are numbered, and all are left
-pub numbered-end : {s work : List ℕ} → Numbered s work (length s) (suc (length s)) → Same work (2 * length s) (labelTable s) 0 (2 * length s)
-numbered-end {s} {work} l = record {
+-- all nodes are measured
+pub measuring-end : {s work : List ℕ} → Measuring s work (length s) → Same work (2 * length s) (labelTable s) 0 (2 * length s)
+measuring-end {s} {work} m = record {
   cell = λ x h.
-      let t = l .ready .tree in
       by-order (length s) x
       (λ b.
       let v = x - length s in
       let hv : v < length s = omega arith in
-      let within = carried-to t hv (t .reach v hv) in
-      let first = preorder-root t in
-      let all = size-root t in
-      ap (λ (i : ℕ). getD work i 0) (omega arith) ∙ l .sizes v hv (omega arith) ∙ sym (label-cell s 1 v (lit< tt) hv) ∙ ap (λ (i : ℕ). getD (labelTable s) i 0) (omega arith))
-      (λ b.
-      l .numbers x b (preorder-most t x b) ∙ sym (label-cell s 0 x (lit< tt) b) ∙ ap (λ (i : ℕ). getD (labelTable s) i 0) (omega arith));
+      ap (λ (i : ℕ). getD work i 0) (omega arith) ∙ m .size .cell v hv hv ∙ sym (label-cell s 1 v (lit< tt) hv) ∙ ap (λ (i : ℕ). getD (labelTable s) i 0) (omega arith))
+      (λ b. m .number .cell x b b ∙ sym (label-cell s 0 x (lit< tt) b) ∙ ap (λ (i : ℕ). getD (labelTable s) i 0) (omega arith));
 }

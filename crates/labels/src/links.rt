@@ -1,13 +1,14 @@
 // PREORDER and SIZE by one walk over the tree, along links to each node's lowest child and next sibling.
 
 ghost use mathlib.Core.Path.{_≡_};
-ghost use lib.ListN.{length, getD, set};
-ghost use Prim.Native.Nat.{suc, _+_, _-_, _*_, _≤_, _<_};
+ghost use lib.ListN.{length};
+ghost use Prim.Native.Nat.{_*_, _≤_};
 ghost use Rattle.tree.specs.Buffers.{workCells};
+ghost use Rattle.tree.specs.Tests.{limit};
 ghost use Rattle.tree.specs.Labels.{labelTable};
 ghost use Rattle.tree.specs.Sections.{Same};
 ghost use Rattle.tree.specs.Ready.{Ready};
-ghost use Rattle.labels.specs.Walk.{Links, Walks, Leaves, Left};
+ghost use Rattle.labels.specs.Walk.{Links, Walks, Numbered, firstOf, endOf};
 
 // The links: each node's lowest child in the first n cells of work and its next sibling in the next n, or n where there is none.
 pub(crate) fn link(parents: &[u16], work: &mut [u16])
@@ -27,46 +28,65 @@ pub(crate) fn link(parents: &[u16], work: &mut [u16])
     }
 }
 
-// The walk: the nodes are numbered in preorder from 1 in the third n cells of work; each is given its size in the last n when it is left.
+// PREORDER, in the third n cells of work, and SIZE, in the last n.
 pub(crate) fn walk(parents: &[u16], root: usize, work: &mut [u16])
     requires { ⌜ Walks (now parents) root (now work) ⌝ }
     ensures { λ _. ⌜ Same (now (work .exit)) (2 * length (now (parents .entry))) (labelTable (now (parents .entry))) 0 (2 * length (now (parents .entry))) ⌝ }
 {
+    number(parents, root, work);
+    measure(parents, work);
+}
+
+// The walk: each node's number in preorder, from 1, into the third n cells of work, and into the last n the node after all that it carries,
+// or n where there is none. The first node that a node carries is its lowest child; without one, the next node is the one after it.
+fn number(parents: &[u16], root: usize, work: &mut [u16])
+    requires { ⌜ Walks (now parents) root (now work) ⌝ }
+    ensures { λ _. ⌜ Numbered (now (parents .entry)) (now (work .exit)) ⌝ }
+{
     let n = parents.len();
+    work[3 * n + root] = n as u16;
     let mut v = root;
     let mut k = 0;
     while k < n {
+        let above = work[3 * n + parents[v] as usize];
         k += 1;
         work[2 * n + v] = k as u16;
-        let child = work[v] as usize;
-        v = if child < n {
-            child
-        } else {
-            leave(parents, v, k, work)
-        };
+        let after = first_of(work[n + v], above, n as u16);
+        work[3 * n + v] = after;
+        v = first_of(work[v], after, n as u16) as usize;
     }
 }
 
-// Leaves v and each node above it whose last child has been left, k nodes being numbered. The next sibling of the last node left, or n at
-// the root.
-fn leave(parents: &[u16], v: usize, k: usize, work: &mut [u16]) -> usize
-    requires { ⌜ Leaves (now parents) v k (now work) ⌝ }
-    ensures { λ r. ⌜ Left (now (parents .entry)) k r (now (work .exit)) ⌝ }
+// a, or b where a is none.
+fn first_of(a: u16, b: u16, none: u16) -> u16
+    ensures { λ r. ⌜ r ≡ firstOf none a b ⌝ }
+{
+    if a < none {
+        return a;
+    }
+    b
+}
+
+// SIZE in place of the node after: the distance to its number.
+fn measure(parents: &[u16], work: &mut [u16])
+    requires { ⌜ Ready (now parents) (now work) × Numbered (now parents) (now work) ⌝ }
+    ensures { λ _. ⌜ Same (now (work .exit)) (2 * length (now (parents .entry))) (labelTable (now (parents .entry))) 0 (2 * length (now (parents .entry))) ⌝ }
 {
     let n = parents.len();
-    let mut u = v;
-    close(n, u, k, work);
-    while work[n + u] as usize == n && parents[u] as usize != u {
-        u = parents[u] as usize;
-        close(n, u, k, work);
+    let mut v = 0;
+    while v < n {
+        work[3 * n + v] = end(n, work[3 * n + v] as usize, work) - work[2 * n + v];
+        v += 1;
     }
-    work[n + u] as usize
 }
 
-// Gives u its size, where k is the number of the last node that it carries.
-fn close(n: usize, u: usize, k: usize, work: &mut [u16])
-    requires { ⌜ (u < n) × (length (now work) ≡ workCells n) × (k < 65535) × (getD (now work) (2 * n + u) 0 ≤ suc k) ⌝ }
-    ensures { λ _. ⌜ now (work .exit) ≡ set (now (work .entry)) (3 * n + u) (suc k - getD (now (work .entry)) (2 * n + u) 0) ⌝ }
+// The number of a node, in the third n cells of work; of none, the number after the last.
+fn end(n: usize, node: usize, work: &[u16]) -> u16
+    requires { ⌜ (length (now work) ≡ workCells n) × (n ≤ limit) ⌝ }
+    ensures { λ r. ⌜ r ≡ endOf (now (work .entry)) n node ⌝ }
 {
-    work[3 * n + u] = (k + 1) as u16 - work[2 * n + u];
+    if node < n {
+        return work[2 * n + node];
+    }
+    n as u16 + 1
 }
