@@ -59,8 +59,12 @@ fn ascend(above: u16, inlabel: u16, upper: u16) -> u16
     requires { ⌜ above + lowestOne inlabel ≤ 65535 ⌝ }
     ensures { λ r. ⌜ r ≡ cond (eqb inlabel upper) above (above + lowestOne inlabel) ⌝ }
 {
-    if inlabel == upper {
-        return above;
-    }
-    above + bits::lowest_one(inlabel)
+    above + bits::lowest_one(inlabel) * differ(inlabel, upper)
+}
+
+// 1 where a and b differ, 0 where they are equal: by a shift, since a branch on it would be guessed wrong at many nodes.
+fn differ(a: u16, b: u16) -> u16
+    ensures { λ r. ⌜ r ≡ cond (eqb a b) 0 1 ⌝ }
+{
+    1 - ((65536 - bits::xor(a, b) as u32) >> 16) as u16
 }
