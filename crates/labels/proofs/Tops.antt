@@ -4,19 +4,22 @@ use Prim.Native.Nat.{ℕ, suc, _+_, _-_, _*_, _<_}
 use native.Mathlib.Nat.{not-suc-le-zero}
 use native.Mathlib.Omega.{arith}
 use mathlib.Core.Path.{_≡_, sym, ap, _∙_, subst}
-use mathlib.Core.Logic.{_≢_, _⊎_, inl, inr, ⊎-elim}
+use mathlib.Core.Logic.{_⊎_, inl, inr, ⊎-elim}
 use mathlib.Core.List.{List}
+use borrow.Author.Tests.{eq-eqb, ne-eqb}
+use lib.Dec.{eqb}
 use lib.ListN.{length, getD, set}
 use Rattle.cells.specs.Cells.{Filled}
 use Rattle.tree.specs.Tree.{parent, rootOf}
 use Rattle.tree.specs.Buffers.{none, workCells}
 use Rattle.tree.specs.Labels.{inlabel, head}
 use Rattle.tree.specs.Ready.{Ready}
-use Rattle.tree.proofs.Scans.{by-equal}
+use Rattle.tree.proofs.Scans.{by-equal, by-test}
 use Rattle.tree.proofs.Trees.{root-found}
 use Rattle.tree.proofs.Paths.{Top, no-node, top-node, head-cases, head-top}
 use Rattle.labels.proofs.Labelled.{Labelled}
-use Rattle.labels.proofs.Filling.{Filling, filling-store}
+use Rattle.labels.specs.Heads.{placeOf}
+use Rattle.labels.proofs.Filling.{Filling, filling-store, filling-keep}
 
 -- what is found of HEAD when the nodes below v have been seen, and the root
 abbrev pub Seen : List ℕ → ℕ → ℕ → Type 0
@@ -25,6 +28,13 @@ Seen s v h = (h ≡ none) ⊎ ((h ≡ rootOf s) ⊎ (h < v))
 -- work has HEAD from cell n on for the numbers for which P holds of it
 abbrev pub Heads : List ℕ → List ℕ → (ℕ → Type 0) → Type 0
 Heads s work P = Filling s work (length s) (λ i. head s (suc i)) (λ i. P (head s (suc i)))
+
+-- the cell of a node is in work
+pub place-inside : {s label : List ℕ} {v q : ℕ} → v < length s → Labelled s label v
+    → q ≡ placeOf (length s) (getD label (3 * length s + v) 0) (getD label (3 * length s + parent s v) 0) → q < workCells (length s)
+place-inside {s} {label} {v} {q} h f e =
+    by-test (eqb (getD label (3 * length s + v) 0) (getD label (3 * length s + parent s v) 0)) (λ t. let first : q ≡ 0 = rw t at e in omega arith)
+    (λ t. let own : q ≡ length s - 1 + getD label (3 * length s + v) 0 = rw t at e in omega arith)
 
 -- before the first store
 heads-none : {s before work : List ℕ} → Filled before (length s) (length s) none work → length work ≡ workCells (length s) → Heads s work (λ h. h ≡ none)
@@ -63,21 +73,21 @@ module _ {s before : List ℕ} (r : Ready s before) where
   seen-next : (v h : ℕ) → Seen s (v + 1) h → (h ≡ v) ⊎ Seen s v h
   seen-next v h k = ⊎-elim (λ g. inr (inl g)) (λ k. ⊎-elim (λ g. inr (inr (inl g))) (λ b. by-equal h v inl (λ q. inr (inr (inr (omega arith))))) k) k
 
-  -- .. and is a top node
-  pub heads-step : {label work : List ℕ} {v : ℕ} → Heads s work (Seen s v) → v < length s → Labelled s label v → inlabel s v ≢ inlabel s (parent s v)
-      → Heads s (set work (length s - 1 + getD label (3 * length s + v) 0) v) (Seen s (v + 1))
-  heads-step {label} {work} {v} hs h f other = heads-store hs h f (inr other) (seen-next v)
-
-  -- .. or is none
-  pub heads-skip : {work : List ℕ} {v : ℕ} → Heads s work (Seen s v) → v < length s → inlabel s v ≡ inlabel s (parent s v) → Heads s work (Seen s (v + 1))
-  heads-skip {work} {v} hs h same =
+  -- .. and is stored at its INLABEL if it is a top node, and else to cell 0, which is not of the column
+  pub heads-step : {label work : List ℕ} {v q : ℕ} → Heads s work (Seen s v) → v < length s → Labelled s label v → Labelled s label (parent s v)
+      → q ≡ placeOf (length s) (getD label (3 * length s + v) 0) (getD label (3 * length s + parent s v) 0) → Heads s (set work q v) (Seen s (v + 1))
+  heads-step {label} {work} {v} {q} hs h f above e =
       let t = r .tree in
-      let top : Top s v → v ≡ rootOf s = ⊎-elim (λ e. t .root-only v h e ∙ root-found t) (λ other. absurd (other same)) in
-      record {
-        room = hs .room;
-        cell = λ i b k.
-            hs .cell i b (⊎-elim (λ e. inr (inl (e ∙ top (head-node v (suc i) h e .1)))) (λ g. g) (seen-next v (head s (suc i)) k));
-      }
+      by-equal (inlabel s v) (inlabel s (parent s v))
+      (λ same.
+      let first : q ≡ 0 = rw (eq-eqb _ _ (f .is ∙ same ∙ sym (above .is))) at e in
+      let top : Top s v → v ≡ rootOf s = ⊎-elim (λ g. t .root-only v h g ∙ root-found t) (λ other. absurd (other same)) in
+      rw first
+      (filling-keep hs 0 v
+      (λ i b k. (⊎-elim (λ g. inr (inl (g ∙ top (head-node v (suc i) h g .1)))) (λ g. g) (seen-next v (head s (suc i)) k), λ g. absurd (omega arith)))))
+      (λ other.
+      let own : q ≡ length s - 1 + getD label (3 * length s + v) 0 = rw (ne-eqb _ _ (λ g. other (sym (f .is) ∙ g ∙ above .is))) at e in
+      rw own (heads-store hs h f (inr other) (seen-next v)))
 
   -- all are seen
   pub heads-end : {work : List ℕ} → Heads s work (Seen s (length s)) → (i : ℕ) → i < length s → getD work (length s + i) 0 ≡ head s (suc i)

@@ -11,6 +11,7 @@ ghost use Rattle.tree.specs.Tree.{rootOf};
 ghost use Rattle.tree.specs.Labels.{labelTable, topmost};
 ghost use Rattle.tree.specs.Sections.{Same};
 ghost use Rattle.tree.specs.Ready.{Ready, Columns, ColumnIn};
+ghost use Rattle.labels.specs.Heads.{placeOf};
 
 // No cell.
 const NONE: u16 = 65535;
@@ -91,10 +92,21 @@ fn heads(parents: &[u16], root: usize, label: &[u16], work: &mut [u16])
     work[n - 1 + label[3 * n + root] as usize] = root as u16;
     let mut v = 0;
     while v < n {
-        let k = label[3 * n + v];
-        if k != label[3 * n + parents[v] as usize] {
-            work[n - 1 + k as usize] = v as u16;
-        }
+        let k = label[3 * n + v] as usize;
+        let upper = label[3 * n + parents[v] as usize] as usize;
+        work[place(n, k, upper)] = v as u16;
         v += 1;
     }
+}
+
+// The cell of work for a node of INLABEL k whose parent's is upper: that of HEAD k, or cell 0, which is not of the column, where the node is
+// no head.
+fn place(n: usize, k: usize, upper: usize) -> usize
+    requires { ⌜ (0 < n) × (n + k ≤ 65535) ⌝ }
+    ensures { λ r. ⌜ r ≡ placeOf n k upper ⌝ }
+{
+    if k == upper {
+        return 0;
+    }
+    n - 1 + k
 }

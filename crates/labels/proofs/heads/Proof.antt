@@ -3,14 +3,13 @@
 use native.Mathlib.Omega.{arith}
 use borrow.Author.Needs.{needs}
 use Prim.Native.Nat.{_-_, _≤_, _<_}
-use mathlib.Core.Path.{_≡_, sym, _∙_}
-use mathlib.Core.Logic.{⊎-elim}
+use mathlib.Core.Path.{_≡_}
 use lib.Dec.{lit<}
 use lib.ListN.{length, getD}
 use Rattle.tree.specs.Tree.{parent}
 use Rattle.tree.proofs.Columns.{column-same}
 use Rattle.labels.proofs.Labelled.{Labelled, labelled}
-use Rattle.labels.proofs.Tops.{Heads, Seen, root-node, heads-start, heads-step, heads-skip, heads-end}
+use Rattle.labels.proofs.Tops.{Heads, Seen, root-node, place-inside, heads-start, heads-step, heads-end}
 use Rattle.labels.proofs.heads.Statement.{statement}
 use Rattle.labels.proofs.heads.Tie as tie
 
@@ -42,6 +41,12 @@ up : (c : tie.In-loop Inv-loop μ-loop)
     getD (s .args .parents .now) (c .before .loop .v) 0 < length (s .args .parents .now)
 unfolding parent
 up c = c .before .before .before .before .before .before .before .before .before .before .pre .0 .ready .tree .inside _ (c .loop-test .taken)
+
+-- its INLABEL
+above : (c : tie.In-loop Inv-loop μ-loop)
+    → let s = c .before .before .before .before .before .before .before .before .before .before in
+    Labelled (s .args .parents .now) (s .args .label .now) (getD (s .args .parents .now) (c .before .loop .v) 0)
+above c = labelled (up c) (c .before .before .before .before .before .before .before .before .before .before .pre .0)
 
 fill-requires : tie.Need-fill-requires Inv-loop μ-loop
 fill-requires c κs = search needs
@@ -93,44 +98,52 @@ mul-k-2 c = search needs
 shared-slice-read-k : tie.Need-shared-slice-read-k Inv-loop μ-loop
 shared-slice-read-k c = search needs
 
-mul-if1 : tie.Need-mul-if1 Inv-loop μ-loop
-mul-if1 c = search needs
+cast-k : tie.Need-cast-k Inv-loop μ-loop
+cast-k c = let f = here (c .before) in search needs
 
-mul-if1-2 : tie.Need-mul-if1-2 Inv-loop μ-loop
-mul-if1-2 c = search needs
+mul-upper : tie.Need-mul-upper Inv-loop μ-loop
+mul-upper c = search needs
 
-shared-slice-read-if1 : tie.Need-shared-slice-read-if1 Inv-loop μ-loop
-shared-slice-read-if1 c = search needs
+mul-upper-2 : tie.Need-mul-upper-2 Inv-loop μ-loop
+mul-upper-2 c = search needs
 
-cast-if1 : tie.Need-cast-if1 Inv-loop μ-loop
-cast-if1 c = let b = up (c .before .before) in search needs
+shared-slice-read-upper : tie.Need-shared-slice-read-upper Inv-loop μ-loop
+shared-slice-read-upper c = search needs
 
-add-if1 : tie.Need-add-if1 Inv-loop μ-loop
-add-if1 c = let b = up (c .before .before) in search needs
+cast-upper : tie.Need-cast-upper Inv-loop μ-loop
+cast-upper c = let f = up (c .before .before) in search needs
 
-mul-if1-3 : tie.Need-mul-if1-3 Inv-loop μ-loop
-mul-if1-3 c = let b = up (c .before .before) in search needs
+add-upper : tie.Need-add-upper Inv-loop μ-loop
+add-upper c = let f = up (c .before .before) in search needs
 
-shared-slice-read-if1-2 : tie.Need-shared-slice-read-if1-2 Inv-loop μ-loop
-shared-slice-read-if1-2 c = let b = up (c .before .before .before) in search needs
+mul-upper-3 : tie.Need-mul-upper-3 Inv-loop μ-loop
+mul-upper-3 c = let f = up (c .before .before) in search needs
+
+shared-slice-read-upper-2 : tie.Need-shared-slice-read-upper-2 Inv-loop μ-loop
+shared-slice-read-upper-2 c = let f = up (c .before .before .before) in search needs
+
+cast-upper-2 : tie.Need-cast-upper-2 Inv-loop μ-loop
+cast-upper-2 c = let f = above (c .before .before .before) in search needs
 
 cast-work-3 : tie.Need-cast-work-3 Inv-loop μ-loop
 cast-work-3 c = search needs
 
-sub-work-2 : tie.Need-sub-work-2 Inv-loop μ-loop
-sub-work-2 c = search needs
-
-cast-work-4 : tie.Need-cast-work-4 Inv-loop μ-loop
-cast-work-4 c = let f = here (c .before .before .before .before) in search needs
-
-add-work-3 : tie.Need-add-work-3 Inv-loop μ-loop
-add-work-3 c = let f = here (c .before .before .before .before) in search needs
+place-requires : tie.Need-place-requires Inv-loop μ-loop
+place-requires c κs = let f = here (c .before .before .before) in (search needs, search needs)
 
 mul-work-4 : tie.Need-mul-work-4 Inv-loop μ-loop
-mul-work-4 c = let f = here (c .before .before .before .before) in search needs
+unfolding parent
+mul-work-4 c =
+    let w = c .before .before .before .before in
+    let inside = place-inside (w .loop-test .taken) (here w) (c .place .ensures) in
+    search needs
 
 slice-write-work-2 : tie.Need-slice-write-work-2 Inv-loop μ-loop
-slice-write-work-2 c = let f = here (c .before .before .before .before) in search needs
+unfolding parent
+slice-write-work-2 c =
+    let w = c .before .before .before .before in
+    let inside = place-inside (w .loop-test .taken) (here w) (c .place .ensures) in
+    search needs
 
 add-v : tie.Need-add-v Inv-loop μ-loop
 add-v c = search needs
@@ -143,16 +156,7 @@ unfolding parent
 loop-again c =
     let s = c .before .before .before .before .before .before .before .before .before .before .before .before .before .before in
     let w = c .before .before .before .before in
-    let r = s .pre .0 .ready in
-    let l = w .before .loop in
-    let f = here w in
-    let above = labelled (up w) (s .pre .0) .is in (
-      search needs,
-      ⊎-elim
-          (λ k. rw (k .1) (heads-step r (l .inv .1) (w .loop-test .taken) f (λ e. k .0 .taken (f .is ∙ e ∙ sym above))))
-          (λ k. rw (k .1) (heads-skip r (l .inv .1) (w .loop-test .taken) (sym (f .is) ∙ k .0 .left ∙ above)))
-          (c .if1 .came),
-    )
+    (search needs, heads-step (s .pre .0 .ready) (w .before .loop .inv .1) (w .loop-test .taken) (here w) (above w) (c .place .ensures))
 
 same-length : tie.Need-same-length Inv-loop μ-loop
 same-length c = search needs
@@ -186,17 +190,17 @@ heads-spec =
     add-k
     mul-k-2
     shared-slice-read-k
-    mul-if1
-    mul-if1-2
-    shared-slice-read-if1
-    cast-if1
-    add-if1
-    mul-if1-3
-    shared-slice-read-if1-2
+    cast-k
+    mul-upper
+    mul-upper-2
+    shared-slice-read-upper
+    cast-upper
+    add-upper
+    mul-upper-3
+    shared-slice-read-upper-2
+    cast-upper-2
     cast-work-3
-    sub-work-2
-    cast-work-4
-    add-work-3
+    place-requires
     mul-work-4
     slice-write-work-2
     add-v
