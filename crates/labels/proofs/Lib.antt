@@ -8,3 +8,4 @@ pub mod Filling
 pub mod InOrder
 pub mod Ascending
 pub mod Tops
+pub mod Smearing

@@ -5,8 +5,9 @@ mod along;
 mod links;
 
 ghost use mathlib.Core.Path.{_≡_};
-ghost use Prim.Native.Nat.{_+_, _*_, _≤_, _<_};
+ghost use Prim.Native.Nat.{_+_, _-_, _*_, _^_, _≤_, _<_};
 ghost use lib.ListN.{length};
+ghost use Rattle.bits.specs.Bits.{log2};
 ghost use Rattle.tree.specs.Tree.{rootOf};
 ghost use Rattle.tree.specs.Labels.{labelTable, topmost};
 ghost use Rattle.tree.specs.Sections.{Same};
@@ -70,7 +71,17 @@ fn inlabel(preorder: u16, size: u16) -> u16
     ensures { λ r. ⌜ r ≡ topmost preorder size ⌝ }
 {
     let last = preorder + size - 1;
-    bits::clear_below(last, bits::log2(bits::xor(preorder - 1, last)))
+    last - (last & below_highest(bits::xor(preorder - 1, last)))
+}
+
+// All bits below the highest one bit of x; 0 for 0. Without a branch or a shift by a variable, several nodes are done at once.
+fn below_highest(x: u16) -> u16
+    ensures { λ r. ⌜ r ≡ 2 ^ log2 x - 1 ⌝ }
+{
+    let two = x | (x >> 1);
+    let four = two | (two >> 2);
+    let eight = four | (four >> 4);
+    (eight | (eight >> 8)) >> 1
 }
 
 // ASCENDANT, into the n cells of work from n on.

@@ -1,7 +1,9 @@
--- `labels::inlabel` meets its contract: the code is the formula.
+-- `labels::inlabel` meets its contract: what is taken from the last number is the rest that the formula leaves out.
 -- Assumes nothing.
 use borrow.Author.Needs.{needs}
+use lib.Bits.{and-le-l}
 use Rattle.tree.specs.Labels.{topmost}
+use Rattle.labels.proofs.Smearing.{cleared}
 use Rattle.labels.proofs.inlabel.Statement.{statement}
 use Rattle.labels.proofs.inlabel.Tie as tie
 
@@ -17,17 +19,17 @@ sub-xor c = search needs
 xor-requires : tie.Need-xor-requires
 xor-requires c κs = search needs
 
-log2-requires : tie.Need-log2-requires
-log2-requires c κs = search needs
+below-highest-requires : tie.Need-below-highest-requires
+below-highest-requires c κs = search needs
 
-clear-below-requires : tie.Need-clear-below-requires
-clear-below-requires c κs = search needs
+sub-result : tie.Need-sub-result
+sub-result c = and-le-l _ _
 
 returns : tie.Need-returns
 unfolding topmost
-returns c = rw (c .clear-below .ensures, c .before .log2 .ensures .is, c .before .before .xor .ensures)
+returns c = rw (c .below-highest .ensures, c .before .xor .ensures) (cleared _ _)
 
 pub inlabel-spec : {M : Type 1} → statement M
 inlabel-spec =
     tie.close
-    (tie.spec add-last sub-last sub-xor xor-requires log2-requires clear-below-requires returns)
+    (tie.spec add-last sub-last sub-xor xor-requires below-highest-requires sub-result returns)
