@@ -1,12 +1,13 @@
 -- What is read from the columns of a label table that are the sheet's own: PREORDER, SIZE and INLABEL of a node, and their bounds.
 -- Assumes nothing.
-use Prim.Native.Nat.{ℕ, _+_, _*_, _≤_, _<_}
+use Prim.Native.Nat.{ℕ, suc, _+_, _*_, _≤_, _<_}
 use native.Mathlib.Nat.{lt-of-lt-of-le}
 use native.Mathlib.Omega.{arith}
 use mathlib.Core.Path.{_≡_, refl, sym}
 use mathlib.Core.List.{List}
 use lib.Dec.{lit<}
 use lib.ListN.{length, getD}
+use Rattle.tree.specs.Tree.{Tree}
 use Rattle.tree.specs.Preorder.{preorderNumber, size}
 use Rattle.tree.specs.Labels.{inlabel, topmost}
 use Rattle.tree.specs.Ready.{Columns}
@@ -27,6 +28,14 @@ pub record Labelled (s label : List ℕ) (v : ℕ) : Type 0 where
   pub is : getD label (3 * length s + v) 0 ≡ inlabel s v
   pub pos : 0 < inlabel s v
   pub most : inlabel s v ≤ length s
+
+-- the numbers of what v carries end with n
+pub interval-ends : {s : List ℕ} (t : Tree s) {v : ℕ} → v < length s → preorderNumber s v + size s v ≤ suc (length s)
+interval-ends t {v} h =
+    let end = carried-to t h (t .reach v h) in
+    let first = preorder-root t in
+    let all = size-root t in
+    omega arith
 
 module _ {s label before : List ℕ} {v : ℕ} (h : v < length s) where
   pub number : Columns s label before 1 → Number s label v
@@ -55,9 +64,7 @@ module _ {s label before : List ℕ} {v : ℕ} (h : v < length s) where
       let small = cs .ready .small in
       let n = number (columns-fewer (omega arith) cs) in
       let l = long cs in
-      let end = carried-to t h (t .reach v h) in
-      let first = preorder-root t in
-      let all = size-root t in
+      let end = interval-ends t h in
       (omega arith, omega arith)
 
   -- its number with most rightmost zero bits is the INLABEL

@@ -12,7 +12,7 @@ use Rattle.bits.proofs.Log.{log2-low, log2-high, log2-le}
 use Rattle.bits.proofs.Ones.{One}
 use Rattle.tree.proofs.Scans.{by-order, by-equal}
 
--- a one bit of either is one of both together
+-- a lowest one bit of either is one of both together
 or-digit : (a b : ℕ) → (a % 2 ≡ 1) ⊎ (b % 2 ≡ 1) → bitOr a b % 2 ≡ 1
 or-digit a b k =
     let step = or-step a b in
@@ -21,6 +21,7 @@ or-digit a b k =
     let right = le-max-right (a % 2) (b % 2) in
     ⊎-elim (λ e. omega arith) (λ e. omega arith) k
 
+-- .. and so is a one bit at any place
 or-one : (a b j : ℕ) → One a j ⊎ One b j → One (bitOr a b) j
 or-one a b j k = rw (or-shr a b j) (or-digit (a / 2 ^ j) (b / 2 ^ j) k)
 

@@ -22,9 +22,9 @@ use Rattle.tree.proofs.Trees.{root-found}
 use Rattle.tree.proofs.PreorderList.{Child, child-test, test-child}
 use Rattle.tree.proofs.Sums.{sum-zero, sum-child, sum-gap}
 use Rattle.tree.proofs.Sizes.{size-sum, size-root, preorder-root, preorder-child, preorder-parent, preorder-most, preorder-injective, preorder-pos, preorder-length, preorder-at, preorder-part, preorder-number-at}
-use Rattle.tree.proofs.Intervals.{carried-to}
 use Rattle.tree.proofs.Cells.{label-cell}
 use Rattle.labels.specs.Walk.{lowestChild, nextSibling, Links, Walks, firstOf, nodeAt, nodeAfter, Numbered, endOf}
+use Rattle.labels.proofs.Labelled.{interval-ends}
 use Rattle.labels.proofs.Filling.{Filling, filling-store, filling-keep}
 use Rattle.labels.proofs.Tops.{root-node}
 
@@ -117,7 +117,7 @@ module _ {s : List ℕ} (t : Tree s) where
       inside-default (preorder s) k (length s) 0 (omega arith) ∙ ap (λ (i : ℕ). getD (preorder s) i 0) (sym here) ∙ preorder-at t v h
 
   -- a place below n has a node, of the number that is one more
-  pub at-node : (k : ℕ) → k < length s → (nodeAt s k < length s) × (preorderNumber s (nodeAt s k) ≡ suc k)
+  at-node : (k : ℕ) → k < length s → (nodeAt s k < length s) × (preorderNumber s (nodeAt s k) ≡ suc k)
   at-node k h =
       let long = preorder-length t in
       let same : nodeAt s k ≡ getD (preorder s) k 0 = inside-default (preorder s) k (length s) 0 (omega arith) in
@@ -127,16 +127,8 @@ module _ {s : List ℕ} (t : Tree s) where
   at-none : (k : ℕ) → length s ≤ k → nodeAt s k ≡ length s
   at-none k h = let long = preorder-length t in List·getD-eq-default (preorder s) (length s) (omega arith)
 
-  -- the numbers end with n
-  ends : (v : ℕ) → v < length s → preorderNumber s v + size s v ≤ suc (length s)
-  ends v h =
-      let within = carried-to t h (t .reach v h) in
-      let first = preorder-root t in
-      let all = size-root t in
-      omega arith
-
   -- after all that v carries comes its next sibling, or else what comes after its parent
-  pub after-is : (v : ℕ) → v < length s → firstOf (length s) (nextSibling s v) (nodeAfter s (parent s v)) ≡ nodeAfter s v
+  after-is : (v : ℕ) → v < length s → firstOf (length s) (nextSibling s v) (nodeAfter s (parent s v)) ≡ nodeAfter s v
   after-is v h =
       let p = parent s v in
       by-test (isRoot s v)
@@ -157,7 +149,7 @@ module _ {s : List ℕ} (t : Tree s) where
       first-some w _ b ∙ sym (at-number w (preorderNumber s v - 1 + size s v) b (omega arith)))))
 
   -- after v comes its lowest child, or else what comes after all that it carries
-  pub next-is : (v : ℕ) → v < length s → firstOf (length s) (lowestChild s v 0) (nodeAfter s v) ≡ nodeAt s (preorderNumber s v)
+  next-is : (v : ℕ) → v < length s → firstOf (length s) (lowestChild s v 0) (nodeAfter s v) ≡ nodeAt s (preorderNumber s v)
   next-is v h =
       let c = lowestChild s v 0 in
       by-order (length s) c
@@ -200,13 +192,18 @@ walking-start {s} {work} {root} w =
       sym (at-number t root 0 h first),
     )
 
+-- the node after v, as it is read once v has number k + 1
+abbrev afterRead : List ℕ → List ℕ → ℕ → ℕ → ℕ
+afterRead s work k v = firstOf (length s) (getD (set work (2 * length s + v) (k + 1)) (length s + v) 0) (getD work (3 * length s + parent s v) 0)
+
 -- node k of the preorder is v
 module _ {s work : List ℕ} {k v : ℕ} (t : Tree s) (b : k < length s) (is : v ≡ nodeAt s k) (w : Walking s work k) where
+  -- it is a node, and its number is the next
   pub walking-node : (v < length s) × (preorderNumber s v ≡ suc k)
   walking-node = rw is (at-node t k b)
 
-  -- the node after it
-  walking-after : {a : ℕ} → a ≡ firstOf (length s) (getD (set work (2 * length s + v) (k + 1)) (length s + v) 0) (getD work (3 * length s + parent s v) 0)
+  -- the node after it is known
+  walking-after : {a : ℕ} → a ≡ afterRead s work k v
       → a ≡ nodeAfter s v
   walking-after e =
       let (h, number) = walking-node in
@@ -217,7 +214,7 @@ module _ {s work : List ℕ} {k v : ℕ} (t : Tree s) (b : k < length s) (is : v
       e ∙ rw (sibling, above) (after-is t v h)
 
   -- it is numbered, and the node after it stored
-  pub walking-step : {a : ℕ} → a ≡ firstOf (length s) (getD (set work (2 * length s + v) (k + 1)) (length s + v) 0) (getD work (3 * length s + parent s v) 0)
+  pub walking-step : {a : ℕ} → a ≡ afterRead s work k v
       → Walking s (set (set work (2 * length s + v) (k + 1)) (3 * length s + v) a) (k + 1)
   walking-step {a} e =
       let (h, number) = walking-node in
@@ -233,7 +230,7 @@ module _ {s work : List ℕ} {k v : ℕ} (t : Tree s) (b : k < length s) (is : v
       }
 
   -- then comes the next
-  pub walking-next : {a u : ℕ} → a ≡ firstOf (length s) (getD (set work (2 * length s + v) (k + 1)) (length s + v) 0) (getD work (3 * length s + parent s v) 0)
+  pub walking-next : {a u : ℕ} → a ≡ afterRead s work k v
       → u ≡ firstOf (length s) (getD (set (set work (2 * length s + v) (k + 1)) (3 * length s + v) a) v 0) a → u ≡ nodeAt s (k + 1)
   walking-next {a} e f =
       let (h, number) = walking-node in
@@ -267,7 +264,7 @@ module _ {s work : List ℕ} {v : ℕ} (t : Tree s) (h : v < length s) (m : Meas
       let number : getD work (2 * length s + v) 0 ≡ preorderNumber s v = m .number .cell v h h in
       let after : getD work (3 * length s + v) 0 ≡ nodeAfter s v = m .after .cell v h (le-refl v) in
       let pos = preorder-pos s v in
-      let last = ends t v h in
+      let last = interval-ends t h in
       let k = preorderNumber s v - 1 + size s v in
       rw (number, after)
       (by-order (length s) k

@@ -38,7 +38,8 @@ pub(crate) fn walk(parents: &[u16], root: usize, work: &mut [u16])
 }
 
 // The walk: each node's number in preorder, from 1, into the third n cells of work, and into the last n the node after all that it carries,
-// or n where there is none. The first node that a node carries is its lowest child; without one, the next node is the one after it.
+// or n where there is none: its next sibling, or else what comes after its parent. The node after it is its lowest child, or else that one.
+// Each choice is a value, not a branch: what comes after the parent is read before the stores, so that it is there when the choice is made.
 fn number(parents: &[u16], root: usize, work: &mut [u16])
     requires { ⌜ Walks (now parents) root (now work) ⌝ }
     ensures { λ _. ⌜ Numbered (now (parents .entry)) (now (work .exit)) ⌝ }
