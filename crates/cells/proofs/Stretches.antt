@@ -1,14 +1,22 @@
--- One more cell filled, copied or found equal.
+-- One more cell filled, copied, or found equal by its bits.
 -- Assumes nothing.
 use Prim.Native.Nat.{ℕ, _+_, _<_, zero-le}
 use native.Mathlib.Omega.{arith}
 use mathlib.Core.Path.{_≡_, refl, sym, ap, _∙_}
 use mathlib.Core.List.{List}
+use lib.Bits.{bitOr, bitXor, and-le-l, and-le-r, or-add-and, xor-add-and}
 use lib.ListN.{length, getD, set, replicate, length-replicate, getD-replicate}
 use lib.Seq.{ext-getD, getD-set-same, getD-set-other}
 use Rattle.tree.proofs.Scans.{by-equal}
 use Rattle.tree.proofs.Differences.{same-none}
 use Rattle.cells.specs.Cells.{Filled, Copied}
+
+-- where no bit is gathered, none was before, and the two numbers do not differ in any
+pub no-bits : (bits x y : ℕ) → bitOr bits (bitXor x y) ≡ 0 → (bits ≡ 0) × (x ≡ y)
+no-bits bits x y e =
+    let d = bitXor x y in
+    let none : (bits ≡ 0) × (d ≡ 0) = (omega (arith, or-add-and bits d, and-le-r bits d), omega (arith, or-add-and bits d, and-le-l bits d)) in
+    (none .0, omega (arith, none .1, xor-add-and x y, and-le-l x y, and-le-r x y))
 
 pub filled-none : (l : List ℕ) (i x : ℕ) → Filled l i 0 x l
 filled-none l i x = record { here = λ c h b. absurd (omega arith); below = λ c h. refl; above = λ c h. refl }

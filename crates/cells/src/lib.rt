@@ -1,10 +1,11 @@
 // Stretches of cells: filling one, copying one from another buffer, finding the first cell in which two differ, and the first that is too large.
 
 ghost use mathlib.Core.Path.{_≡_};
-ghost use Prim.Native.Nat.{_+_, _≤_};
+ghost use Prim.Native.Nat.{ℕ, _+_, _≤_, _<_};
 ghost use lib.Dec.{leb};
 ghost use lib.ListN.{length, getD};
 ghost use Rattle.tree.specs.Scan.{least};
+ghost use Rattle.tree.specs.Sections.{Same};
 ghost use Rattle.cells.specs.Cells.{Filled, Copied, Agree};
 
 // Stores `value` in the `count` cells from `first` on.
@@ -36,6 +37,9 @@ pub fn agree(a: &[u16], at: usize, b: &[u16], start: usize, count: usize) -> usi
     requires { ⌜ (at + count ≤ length (now a)) × (start + count ≤ length (now b)) ⌝ }
     ensures { λ r. ⌜ Agree (now (a .entry)) at (now (b .entry)) start count r ⌝ }
 {
+    if differences(a, at, b, start, count) == 0 {
+        return count;
+    }
     let mut i = 0;
     while i < count {
         if a[at + i] != b[start + i] {
@@ -46,11 +50,28 @@ pub fn agree(a: &[u16], at: usize, b: &[u16], start: usize, count: usize) -> usi
     i
 }
 
+// The bits in which any two cells of the stretches differ: 0 only where they are equal. It stops at no cell, so that several are compared at once.
+fn differences(a: &[u16], at: usize, b: &[u16], start: usize, count: usize) -> u16
+    requires { ⌜ (at + count ≤ length (now a)) × (start + count ≤ length (now b)) ⌝ }
+    ensures { λ r. ⌜ (r ≡ 0 → Same (now (a .entry)) at (now (b .entry)) start count) ⌝ }
+{
+    let mut bits: u16 = 0;
+    let mut i = 0;
+    while i < count {
+        bits = bits | (a[at + i] ^ b[start + i]);
+        i += 1;
+    }
+    bits
+}
+
 // The first cell that is `bound` or more; the number of cells where there is none.
 pub fn first_from(cells: &[u16], bound: usize) -> usize
     ensures { λ r. ⌜ r ≡ least (λ i. leb bound (getD (now (cells .entry)) i 0)) (length (now (cells .entry))) ⌝ }
 {
     let n = cells.len();
+    if (largest(cells) as usize) < bound {
+        return n;
+    }
     let mut i = 0;
     while i < n {
         if bound <= cells[i] as usize {
@@ -59,4 +80,21 @@ pub fn first_from(cells: &[u16], bound: usize) -> usize
         i += 1;
     }
     i
+}
+
+// The largest cell; 0 where there is none. It stops at no cell, so that several are compared at once.
+fn largest(cells: &[u16]) -> u16
+    ensures { λ r. ⌜ ((j : ℕ) → j < length (now (cells .entry)) → getD (now (cells .entry)) j 0 ≤ r) ⌝ }
+{
+    let n = cells.len();
+    let mut most: u16 = 0;
+    let mut i = 0;
+    while i < n {
+        let x = cells[i];
+        if most < x {
+            most = x;
+        }
+        i += 1;
+    }
+    most
 }

@@ -1,4 +1,4 @@
--- `cells::agree` meets its contract: the i cells passed are the same.
+-- `cells::agree` meets its contract: no bit differs, or the i cells passed are the same.
 -- Assumes nothing.
 use native.Mathlib.Omega.{arith}
 use borrow.Author.Needs.{needs}
@@ -15,31 +15,37 @@ Inv-loop a at b start count i₀ i = (i ≤ count) × Same a at b start i
 abbrev μ-loop : tie.MeasureT-loop
 μ-loop a at b start count i₀ i = count - i
 
+differences-requires : tie.Need-differences-requires Inv-loop μ-loop
+differences-requires c κs = search needs
+
+returns : tie.Need-returns Inv-loop μ-loop
+returns c = record { most = search needs; same = c .before .differences .ensures (c .if1 .taken); parts = λ h. absurd (omega arith) }
+
 loop-holds : tie.Need-loop-holds Inv-loop μ-loop
 loop-holds c = (search needs, same-none _ _ _ _)
 
-add-if1 : tie.Need-add-if1 Inv-loop μ-loop
-add-if1 c = search needs
+add-if2 : tie.Need-add-if2 Inv-loop μ-loop
+add-if2 c = search needs
 
-mul-if1 : tie.Need-mul-if1 Inv-loop μ-loop
-mul-if1 c = search needs
+mul-if2 : tie.Need-mul-if2 Inv-loop μ-loop
+mul-if2 c = search needs
 
-shared-slice-read-if1 : tie.Need-shared-slice-read-if1 Inv-loop μ-loop
-shared-slice-read-if1 c = search needs
+shared-slice-read-if2 : tie.Need-shared-slice-read-if2 Inv-loop μ-loop
+shared-slice-read-if2 c = search needs
 
-add-if1-2 : tie.Need-add-if1-2 Inv-loop μ-loop
-add-if1-2 c = search needs
+add-if2-2 : tie.Need-add-if2-2 Inv-loop μ-loop
+add-if2-2 c = search needs
 
-mul-if1-2 : tie.Need-mul-if1-2 Inv-loop μ-loop
-mul-if1-2 c = search needs
+mul-if2-2 : tie.Need-mul-if2-2 Inv-loop μ-loop
+mul-if2-2 c = search needs
 
-shared-slice-read-if1-2 : tie.Need-shared-slice-read-if1-2 Inv-loop μ-loop
-shared-slice-read-if1-2 c = search needs
+shared-slice-read-if2-2 : tie.Need-shared-slice-read-if2-2 Inv-loop μ-loop
+shared-slice-read-if2-2 c = search needs
 
-returns : tie.Need-returns Inv-loop μ-loop
-returns c =
+returns-2 : tie.Need-returns-2 Inv-loop μ-loop
+returns-2 c =
     let l = c .before .before .before .before .loop in
-    record { most = l .inv .0; same = l .inv .1; parts = λ _. c .if1 .taken }
+    record { most = l .inv .0; same = l .inv .1; parts = λ _. c .if2 .taken }
 
 add-i : tie.Need-add-i Inv-loop μ-loop
 add-i c = search needs
@@ -50,10 +56,10 @@ loop-less c = search needs
 loop-again : tie.Need-loop-again Inv-loop μ-loop
 loop-again c =
     let l = c .before .before .before .before .loop in
-    (omega arith, rw add-one (same-more (l .inv .1) (c .if1 .left)))
+    (omega arith, rw add-one (same-more (l .inv .1) (c .if2 .left)))
 
-returns-2 : tie.Need-returns-2 Inv-loop μ-loop
-returns-2 c =
+returns-3 : tie.Need-returns-3 Inv-loop μ-loop
+returns-3 c =
     let l = c .before .loop in
     record { most = l .inv .0; same = l .inv .1; parts = λ h. absurd (omega arith) }
 
@@ -63,15 +69,17 @@ agree-spec =
     (tie.spec
     Inv-loop
     μ-loop
-    loop-holds
-    add-if1
-    mul-if1
-    shared-slice-read-if1
-    add-if1-2
-    mul-if1-2
-    shared-slice-read-if1-2
+    differences-requires
     returns
+    loop-holds
+    add-if2
+    mul-if2
+    shared-slice-read-if2
+    add-if2-2
+    mul-if2-2
+    shared-slice-read-if2-2
+    returns-2
     add-i
     loop-less
     loop-again
-    returns-2)
+    returns-3)
