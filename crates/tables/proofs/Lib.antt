@@ -1,5 +1,5 @@
 -- Laws about this crate's loops, and what is shown of its calls. Assumes nothing.
-pub mod Climbing
+pub mod Jumping
 pub mod Sections
 pub mod Powers
 pub mod Rowwise

@@ -1,4 +1,4 @@
 pub mod Check
+pub mod Jumps
 pub mod Lend
 pub mod Sections
-pub mod Stamps

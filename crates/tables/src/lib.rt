@@ -3,9 +3,9 @@
 
 mod fill;
 mod fits;
+mod jumps;
 mod scan;
 mod stale;
-mod stamps;
 
 use tree::Outcome;
 use tree::Refusal;
@@ -17,7 +17,7 @@ ghost use Rattle.tree.specs.Tests.{verdict, limit, treeTests};
 ghost use Rattle.tree.specs.Buffers.{workCells};
 ghost use Rattle.tables.specs.Check.{Tested, CheckGives};
 ghost use Rattle.tables.specs.Lend.{BuildGives, LentGives};
-ghost use Rattle.tables.specs.Stamps.{Blank};
+ghost use Rattle.tables.specs.Jumps.{Roomy};
 
 // Checks the sheet `parents`: accepted if it is one rooted tree of at most 16,384 parts, else refused with document 01's number
 // and place. `work` has four cells for each part. It is all zero afterwards, or as it was after refusals 1 to 3.
@@ -125,9 +125,9 @@ fn admit(parents: &[u16], unfit: usize, work: &mut [u16]) -> Outcome
     r
 }
 
-// Tests 4 to 7. The cells of `work` are zeros, and are left with the stamps of the climbs.
+// Tests 4 to 7. The cells of `work` are left with the links of the loop test.
 fn test_tree(parents: &[u16], work: &mut [u16]) -> Outcome
-    requires { ⌜ Blank (now parents) (now work) ⌝ }
+    requires { ⌜ Roomy (now parents) (now work) ⌝ }
     ensures { λ r. ⌜ verdictOf r ≡ verdict (treeTests (now (parents .entry))) ⌝ }
 {
     let n = parents.len();
@@ -139,11 +139,11 @@ fn test_tree(parents: &[u16], work: &mut [u16]) -> Outcome
     if n <= root {
         return Outcome::Refused(Refusal::NoRoot);
     }
-    let second = scan::next_root(parents, root + 1);
+    let second = scan::second_root(parents, root);
     if second < n {
         return Outcome::Refused(Refusal::SecondRoot(second));
     }
-    let v = stamps::first_cycle(parents, root, work);
+    let v = jumps::first_cycle(parents, root, work);
     if v < n {
         return Outcome::Refused(Refusal::Cycle(v));
     }

@@ -12,7 +12,7 @@ use lib.Dec.{eqb}
 use lib.ListN.{length}
 use Rattle.tree.specs.Scan.{least}
 use Rattle.tree.specs.Tree.{parent, climb, Ancestor, isAncestor}
-use Rattle.tree.proofs.Scans.{by-equal, least-here, least-before, least-at-most}
+use Rattle.tree.proofs.Scans.{least-here, least-before, least-at-most}
 use Rattle.tree.proofs.Pigeonhole.{pigeonhole}
 
 -- each entry is a part
@@ -51,16 +51,6 @@ pub climb-stays : (s : List ℕ) (k v : ℕ) → parent s v ≡ v → climb s k 
 unfolding climb
 climb-stays s zero v e = refl
 climb-stays s (suc k) v e = ap (climb s k) e ∙ climb-stays s k v e
-
--- a climb that comes back to a part goes round: whatever it meets later it has met before
-pub climb-round : (s : List ℕ) (v j k m : ℕ) → j < k → climb s j v ≡ climb s k v → (i : ℕ) × (i < k) × (climb s m v ≡ climb s i v)
-climb-round s v j k zero h e = (0, omega arith, refl)
-climb-round s v j k (suc m) h e =
-    let (i, b, same) = climb-round s v j k m h e in
-    let next : climb s (suc m) v ≡ climb s (suc i) v = climb-suc s m v ∙ ap (parent s) same ∙ sym (climb-suc s i v) in
-    by-equal (suc i) k
-    (λ g. (j, h, next ∙ ap (λ (l : ℕ). climb s l v) g ∙ sym e))
-    (λ g. (suc i, omega arith, next))
 
 -- ---- "carries"
 

@@ -140,10 +140,6 @@ count-one p q (suc n) i h same yes-p no-q =
     let ih : count p n ≡ suc (count q n) = earlier (omega arith) same yes-p no-q in
     rw at-n (omega arith))
 
--- one number fewer
-pub count-less : (p q : ℕ → Bool) (n i : ℕ) → i < n → ((j : ℕ) → j ≢ i → q j ≡ p j) → p i ≡ true → q i ≡ false → count q n < count p n
-count-less p q n i h same yes-p no-q = let one = count-one p q n i h same yes-p no-q in omega arith
-
 -- ---- a test of every member
 
 pub every-true : (p : ℕ → Bool) (xs : List ℕ) → ((x : ℕ) → List·Memᴰ x xs → p x ≡ true) → every p xs ≡ true

@@ -39,7 +39,7 @@ test-tree-requires c κs =
     let l = d .before .before in
     let fits = s .pre (pos-of-ne-zero (l .before .before .if1 .left)) (l .before .if2 .left) (l .if3 .left) in
     let same = d .clear .kept .0 in
-    record { small = l .before .if2 .left; room = omega arith; zero = d .clear .ensures ∙ ap (λ k. replicate k 0) (sym same) }
+    record { small = l .before .if2 .left; room = omega arith }
 
 clear-requires-2 : tie.Need-clear-requires-2
 clear-requires-2 c κs = search needs

@@ -1,7 +1,6 @@
 -- `tables::test_tree` meets its contract: each answer is that of the first test whose place was found.
 -- Assumes nothing.
 use Prim.Native.Nat.{ℕ, suc, _≤_, _<_}
-use native.Mathlib.Numerals.{add-one}
 use mathlib.Core.Path.{_≡_, sym, ap, _∙_, subst}
 use mathlib.Core.List.{List}
 use borrow.Author.Needs.{needs}
@@ -12,8 +11,8 @@ use Rattle.tree.specs.Tests.{parentOutOfRange}
 use Rattle.tree.proofs.Places.{out-of-range-place}
 use Rattle.tree.proofs.Roots.{root-of-next}
 use Rattle.tree.proofs.Answers.{refused-out-of-range, refused-no-root, refused-second-root, refused-cycle, accepted-tree-tests}
-use Rattle.tables.specs.Stamps.{OneRoot}
-use Rattle.tables.proofs.Climbing.{one-root}
+use Rattle.tables.specs.Jumps.{OneRoot}
+use Rattle.tables.proofs.Jumping.{one-root}
 use Rattle.tables.proofs.test_tree.Statement.{statement}
 use Rattle.tables.proofs.test_tree.Tie as tie
 
@@ -37,9 +36,9 @@ below : (c : tie.Else2) → rootOf (sheet (c .before .before .before .before .be
 below c = rw (root (c .before)) at (c .if2 .left)
 
 -- second is the next, and there is none
-second : (c : tie.After-next-root2)
-    → c .next-root2 .result ≡ nextRoot (sheet (c .before .before .before .before .before .before .before)) (suc (rootOf (sheet (c .before .before .before .before .before .before .before))))
-second c = c .next-root2 .ensures ∙ ap (nextRoot _) (add-one _ ∙ ap suc (root (c .before .before)))
+second : (c : tie.After-second-root)
+    → c .second-root .result ≡ nextRoot (sheet (c .before .before .before .before .before .before .before)) (suc (rootOf (sheet (c .before .before .before .before .before .before .before))))
+second c = c .second-root .ensures ∙ ap (nextRoot _) (ap suc (root (c .before .before)))
 
 none : (c : tie.Else3)
     → length (sheet (c .before .before .before .before .before .before .before .before))
@@ -60,11 +59,8 @@ next-root-requires c κs = search needs
 returns-2 : tie.Need-returns-2
 returns-2 c = sym (refused-no-root _ (entries (c .before .before)) (rw (root (c .before)) at (c .if2 .taken)))
 
-add-next-root : tie.Need-add-next-root
-add-next-root c = search needs
-
-next-root-requires-2 : tie.Need-next-root-requires-2
-next-root-requires-2 c κs = search needs
+second-root-requires : tie.Need-second-root-requires
+second-root-requires c κs = search needs
 
 returns-3 : tie.Need-returns-3
 returns-3 c =
@@ -75,7 +71,7 @@ first-cycle-requires : tie.Need-first-cycle-requires
 first-cycle-requires c κs =
     let d = c .before in
     let one = one-root _ (entries (d .before .before .before .before)) (below (d .before .before)) (none d) in
-    record { one = subst (OneRoot _) (sym (root (d .before .before .before))) one; blank = d .before .before .before .before .before .before .before .before .pre }
+    record { one = subst (OneRoot _) (sym (root (d .before .before .before))) one; fits = d .before .before .before .before .before .before .before .before .pre }
 
 same-length : tie.Need-same-length
 same-length c = search needs
@@ -104,8 +100,7 @@ test-tree-spec =
     returns
     next-root-requires
     returns-2
-    add-next-root
-    next-root-requires-2
+    second-root-requires
     returns-3
     first-cycle-requires
     same-length

@@ -1,0 +1,76 @@
+-- `tables::jumps::first_cycle` meets its contract: every link is as many steps up as have been counted, or more.
+-- Assumes nothing.
+use Prim.Native.Nat.{_-_, _≤_, zero-le}
+use native.Mathlib.Omega.{arith}
+use mathlib.Core.Path.{_≡_, _∙_}
+use borrow.Author.Needs.{needs}
+use lib.ListN.{length}
+use Rattle.tables.specs.Jumps.{Links}
+use Rattle.tables.proofs.Jumping.{links-start, links-twice, links-less, no-cycle}
+use Rattle.tables.proofs.jumps.first_cycle.Statement.{statement}
+use Rattle.tables.proofs.jumps.first_cycle.Tie as tie
+
+abbrev Inv-loop : tie.InvT-loop
+Inv-loop parents root work₀ n steps₀ work steps = (1 ≤ steps) × (length work ≡ length work₀) × Links parents work root steps
+
+abbrev μ-loop : tie.MeasureT-loop
+μ-loop parents root work₀ n steps₀ work steps = length parents - steps
+
+copy-requires : tie.Need-copy-requires Inv-loop μ-loop
+copy-requires c κs = search needs
+
+loop-holds : tie.Need-loop-holds Inv-loop μ-loop
+loop-holds c =
+    let copy = c .before .before .copy in
+    (search needs, search needs, links-start (copy .kept .0) (c .before .before .before .before .before .before .pre) (copy .ensures .here))
+
+jump-requires : tie.Need-jump-requires Inv-loop μ-loop
+jump-requires c κs = links-less zero-le (c .before .before .loop .inv .2)
+
+same-length : tie.Need-same-length Inv-loop μ-loop
+same-length c =
+    let l = c .before .before .before .before .before .before in
+    c .before .before .before .jump .kept .1 .1 .0 ∙ l .loop .inv .1 ∙ l .before .before .before .copy .kept .0
+
+returns : tie.Need-returns Inv-loop μ-loop
+returns c =
+    no-cycle (c .before .before .before .before .before .before .loop .inv .2) (c .before .before .before .jump .ensures) (c .if1 .taken)
+
+mul-steps : tie.Need-mul-steps Inv-loop μ-loop
+mul-steps c = search needs
+
+loop-less : tie.Need-loop-less Inv-loop μ-loop
+loop-less c = search needs
+
+loop-again : tie.Need-loop-again Inv-loop μ-loop
+loop-again c =
+    let l = c .before .before .before .before .before .before .loop .inv in
+    let jump = c .before .before .before .jump in
+    (omega arith, jump .kept .1 .1 .0 ∙ l .1, links-twice (jump .kept .1 .1 .0) (l .2) (jump .ensures))
+
+first-unrooted-requires : tie.Need-first-unrooted-requires Inv-loop μ-loop
+first-unrooted-requires c κs = links-less (c .before .loop-test .left) (c .before .before .loop .inv .2)
+
+same-length-2 : tie.Need-same-length-2 Inv-loop μ-loop
+same-length-2 c = search needs
+
+returns-2 : tie.Need-returns-2 Inv-loop μ-loop
+returns-2 c = c .first-unrooted .ensures
+
+pub first-cycle-spec : {M : Type 1} → statement M
+first-cycle-spec =
+    tie.close
+    (tie.spec
+    Inv-loop
+    μ-loop
+    copy-requires
+    loop-holds
+    jump-requires
+    same-length
+    returns
+    mul-steps
+    loop-less
+    loop-again
+    first-unrooted-requires
+    same-length-2
+    returns-2)

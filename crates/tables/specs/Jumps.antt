@@ -1,0 +1,45 @@
+-- Links, by which the loop test follows the climbs of all parts at once: each part has a cell that names a part some steps up from it.
+-- Assumes nothing.
+use Prim.Native.Nat.{ℕ, _*_, _≤_, _<_}
+use mathlib.Core.Path.{_≡_}
+use mathlib.Core.List.{List}
+use lib.ListN.{length, getD}
+use Rattle.tree.specs.Tree.{parent, climb}
+use Rattle.tree.specs.Tests.{limit}
+
+-- a sheet that has passed tests 4 to 6: its entries are parts, and r alone names itself
+pub record OneRoot (s : List ℕ) (r : ℕ) : Type 0 where
+  pub inside : (v : ℕ) → v < length s → parent s v < length s
+  pub part : r < length s
+  pub itself : parent s r ≡ r
+  pub only : (v : ℕ) → v < length s → parent s v ≡ v → v ≡ r
+
+-- a sheet that is not too large, with a cell for each part's link
+pub record Roomy (s w : List ℕ) : Type 0 where
+  pub small : length s ≤ limit
+  pub room : length s ≤ length w
+
+-- a sheet that is both
+pub record Rooted (s w : List ℕ) (r : ℕ) : Type 0 where
+  pub one : OneRoot s r
+  pub fits : Roomy s w
+
+-- u is k steps or more up from v
+pub record Up (s : List ℕ) (k v u : ℕ) : Type 0 where
+  pub steps : ℕ
+  pub most : k ≤ steps
+  pub reaches : climb s steps v ≡ u
+
+-- the link of each part is k steps or more up from it
+pub record Linked (s w : List ℕ) (k : ℕ) : Type 0 where
+  pub link : (v : ℕ) → v < length s → Up s k v (getD w v 0)
+
+-- the sheet and the links, each k steps or more up
+pub record Links (s w : List ℕ) (r k : ℕ) : Type 0 where
+  pub rooted : Rooted s w r
+  pub linked : Linked s w k
+
+-- a round has made every link twice as long; it gives 0 only where all links are the root
+pub record Jumped (s w : List ℕ) (r bits : ℕ) (w′ : List ℕ) : Type 0 where
+  pub twice : (k : ℕ) → Linked s w k → Linked s w′ (2 * k)
+  pub all : bits ≡ 0 → (v : ℕ) → v < length s → getD w′ v 0 ≡ r
