@@ -1,7 +1,7 @@
--- The links of the loop test: how a round makes them longer, and what they say of the climbs.
+-- The links of the loop test: how a pass makes them longer, and what they say of the climbs.
 -- Assumes nothing.
 use Prim.Native.Nat.{ℕ, suc, _+_, _*_, _-_, _≤_, _<_}
-use native.Mathlib.Nat.{le-refl, not-suc-le-zero, zero-add}
+use native.Mathlib.Nat.{le-refl, zero-add}
 use native.Mathlib.Omega.{arith}
 use mathlib.Core.Path.{_≡_, sym, ap, _∙_, subst}
 use mathlib.Core.Logic.{_≢_}
@@ -18,7 +18,7 @@ use Rattle.tree.proofs.Climbs.{Inside, climb-one, climb-add, climb-split, climb
 use Rattle.tree.proofs.Roots.{is-root, root-is, root-of, no-second, meets-by-n}
 use Rattle.tree.proofs.Places.{entries-inside-place, cycle-place}
 use Rattle.cells.proofs.Stretches.{no-bits}
-use Rattle.tables.specs.Jumps.{OneRoot, Rooted, Up, Linked, Links, Jumped}
+use Rattle.tables.specs.Jumps.{OneRoot, Rooted, Up, Linked, Links, Hopped, Jumped}
 
 -- a sheet that has passed tests 4 to 6 has one root
 pub one-root : (s : List ℕ) → length s ≤ parentOutOfRange s .place → rootOf s < length s → length s ≤ nextRoot s (suc (rootOf s)) → OneRoot s (rootOf s)
@@ -45,52 +45,64 @@ link-inside {s} {w} {k} {v} inside l h =
     let up = l .link v h in
     subst (λ (x : ℕ). x < length s) (up .reaches) (climb-inside s inside (up .steps) v h)
 
--- ---- a round
+-- ---- a pass
 
--- the links w in a round that began with links of k steps or more, once the first i have been replaced
-pub record Between (s w : List ℕ) (i k : ℕ) : Type 0 where
+-- the links w in a pass that began with links of k steps or more, once those of the parts in P have been replaced
+pub record Between (s w : List ℕ) (P : ℕ → Type 0) (k : ℕ) : Type 0 where
   pub every : Linked s w k
-  pub first : (v : ℕ) → v < i → Up s (2 * k) v (getD w v 0)
+  pub passed : (v : ℕ) → v < length s → P v → Up s (2 * k) v (getD w v 0)
 
--- a round that began with the links w₀
-pub record Jumping (s w₀ w : List ℕ) (r i bits : ℕ) : Type 0 where
-  pub between : (k : ℕ) → Linked s w₀ k → Between s w i k
-  pub all : bits ≡ 0 → (v : ℕ) → v < i → getD w v 0 ≡ r
+-- a pass that began with the links w₀
+pub record Jumping (s w₀ w : List ℕ) (r : ℕ) (P : ℕ → Type 0) (bits : ℕ) : Type 0 where
+  pub between : (k : ℕ) → Linked s w₀ k → Between s w P k
+  pub all : bits ≡ 0 → (v : ℕ) → v < length s → P v → getD w v 0 ≡ r
 
-pub jumping-start : (s w : List ℕ) (r : ℕ) → Jumping s w w r 0 0
-jumping-start s w r = record {
-  between = λ k l. record { every = l; first = λ v h. absurd (not-suc-le-zero h) };
-  all = λ _ v h. absurd (not-suc-le-zero h);
+pub jumping-start : {s w : List ℕ} {r : ℕ} {P : ℕ → Type 0} → ((v : ℕ) → v < length s → P v → ⊥) → Jumping s w w r P 0
+jumping-start none = record {
+  between = λ k l. record { every = l; passed = λ v h p. absurd (none v h p) };
+  all = λ _ v h p. absurd (none v h p);
 }
 
 -- what holds of the cell that is stored, and of each other, holds of each
-stored : (P : ℕ → ℕ → Type 0) (w : List ℕ) (i y v : ℕ) → i < length w → P i y → (v ≢ i → P v (getD w v 0)) → P v (getD (set w i y) v 0)
-stored P w i y v h here other =
+stored : (Q : ℕ → ℕ → Type 0) (w : List ℕ) (i y v : ℕ) → i < length w → Q i y → (v ≢ i → Q v (getD w v 0)) → Q v (getD (set w i y) v 0)
+stored Q w i y v h here other =
     by-equal v i (λ q. rw (q, getD-set-same w i y 0 h) here) (λ q. rw (getD-set-other w i v y 0 q) (other q))
 
-between-step : {s w : List ℕ} {i k : ℕ} → Inside s → i < length s → length s ≤ length w → Between s w i k → Between s (set w i (getD w (getD w i 0) 0)) (suc i) k
-between-step {s} {w} {i} {k} inside h room b =
-    let y = getD w (getD w i 0) 0 in
-    let jump : Up s (2 * k) i y = up-twice (b .every .link i h) (b .every .link (getD w i 0) (link-inside inside (b .every) h)) in
-    record {
-      every = record { link = λ v l. stored (Up s k) w i y v (omega arith) (up-less (omega arith) jump) (λ _. b .every .link v l) };
-      first = λ v l. stored (Up s (2 * k)) w i y v (omega arith) jump (λ q. b .first v (omega arith));
-    }
+-- one part more
+module _ {s w₀ w : List ℕ} {r i bits : ℕ} {P : ℕ → Type 0}
+    (before : Links s w₀ r 0) (long : length w ≡ length w₀) (h : i < length s) (g : Jumping s w₀ w r P bits) where
+  -- there are cells for it and for its link
+  pub jumping-inside : (i < length w) × (getD w i 0 < length w)
+  jumping-inside =
+      let room : length s ≤ length w = omega (arith, before .rooted .fits .room) in
+      let inside = link-inside (before .rooted .one .inside) (g .between 0 (before .linked) .every) h in
+      (omega arith, omega arith)
 
-pub jumping-step : {s w₀ w : List ℕ} {r i bits : ℕ} → Inside s → i < length s → length s ≤ length w → Jumping s w₀ w r i bits
-    → Jumping s w₀ (set w i (getD w (getD w i 0) 0)) r (suc i) (bitOr bits (bitXor (getD w (getD w i 0) 0) r))
-jumping-step {s} {w₀} {w} {r} {i} {bits} inside h room g = record {
-  between = λ k l. between-step inside h room (g .between k l);
-  all = λ z v l.
-      let y = getD w (getD w i 0) 0 in
-      let none = no-bits bits y r z in
-      stored (λ _ x. x ≡ r) w i y v (omega arith) (none .1) (λ q. g .all (none .0) v (omega arith));
+  pub jumping-step : {P′ : ℕ → Type 0} {up : ℕ} {w′ : List ℕ} → ((v : ℕ) → P′ v → v ≢ i → P v) → Hopped w i up w′
+      → Jumping s w₀ w′ r P′ (bitOr bits (bitXor up r))
+  jumping-step {up = up} more hop =
+      let here = jumping-inside .0 in
+      rw (hop .now) (record {
+        between = λ k l.
+            let b = g .between k l in
+            let link = b .every .link in
+            let jump : Up s (2 * k) i up = rw (hop .to) (up-twice (link i h) (link (getD w i 0) (link-inside (before .rooted .one .inside) (b .every) h))) in
+            record {
+              every = record { link = λ v l. stored (Up s k) w i up v here (up-less (omega arith) jump) (λ _. link v l) };
+              passed = λ v l p. stored (Up s (2 * k)) w i up v here jump (λ q. b .passed v l (more v p q));
+            };
+        all = λ z v l p.
+            let none = no-bits bits up r z in
+            stored (λ _ x. x ≡ r) w i up v here (none .1) (λ q. g .all (none .0) v l (more v p q));
+      })
+
+pub jumping-end : {s w₀ w : List ℕ} {r bits : ℕ} {P : ℕ → Type 0} → ((v : ℕ) → v < length s → P v) → Jumping s w₀ w r P bits → Jumped s w₀ r bits w
+jumping-end every g = record {
+  twice = λ k l. record { link = λ v h. g .between k l .passed v h (every v h) };
+  all = λ z v h. g .all z v h (every v h);
 }
 
-pub jumping-end : {s w₀ w : List ℕ} {r bits : ℕ} → Jumping s w₀ w r (length s) bits → Jumped s w₀ r bits w
-jumping-end g = record { twice = λ k l. record { link = g .between k l .first }; all = g .all }
-
--- ---- round by round
+-- ---- pass by pass
 
 -- where the number of cells is as it was, there is room
 rooted-kept : {s w w′ : List ℕ} {r : ℕ} → length w′ ≡ length w → Rooted s w r → Rooted s w′ r
@@ -104,7 +116,7 @@ links-start {s} e g p = record {
   linked = record { link = λ v h. record { steps = 1; most = le-refl 1; reaches = climb-one s v ∙ sym (rw zero-add at (p .cell v h)) } };
 }
 
--- each round makes the links longer
+-- each pass makes the links longer
 pub links-twice : {s w w′ : List ℕ} {r k bits : ℕ} → length w′ ≡ length w → Links s w r k → Jumped s w r bits w′ → Links s w′ r (2 * k)
 links-twice {k = k} e g jumped = record { rooted = rooted-kept e (g .rooted); linked = jumped .twice k (g .linked) }
 
@@ -133,7 +145,7 @@ linked-elsewhere {s} {w} {r} {v} one l h q =
     absurd (q (sym (up .reaches) ∙ stays ∙ one .only far (climb-inside s (one .inside) (length s) v h) self)))
     (λ e. e)
 
--- after a round that gives 0 there is no loop
+-- after a pass that gives 0 there is no loop
 pub no-cycle : {s w w′ : List ℕ} {r k bits : ℕ} → Links s w r k → Jumped s w r bits w′ → bits ≡ 0 → length s ≡ cycle s .place
 no-cycle {s} {k = k} g jumped z =
     cycle-place s (length s) (le-refl _)

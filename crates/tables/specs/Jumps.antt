@@ -3,7 +3,7 @@
 use Prim.Native.Nat.{ℕ, _*_, _≤_, _<_}
 use mathlib.Core.Path.{_≡_}
 use mathlib.Core.List.{List}
-use lib.ListN.{length, getD}
+use lib.ListN.{length, getD, set}
 use Rattle.tree.specs.Tree.{parent, climb}
 use Rattle.tree.specs.Tests.{limit}
 
@@ -39,7 +39,12 @@ pub record Links (s w : List ℕ) (r k : ℕ) : Type 0 where
   pub rooted : Rooted s w r
   pub linked : Linked s w k
 
--- a round has made every link twice as long; it gives 0 only where all links are the root
+-- the link of v has been replaced by its link's link
+pub record Hopped (w : List ℕ) (v up : ℕ) (w′ : List ℕ) : Type 0 where
+  pub to : up ≡ getD w (getD w v 0) 0
+  pub now : w′ ≡ set w v up
+
+-- every link has been, so that each is twice as long; 0 says that all are the root
 pub record Jumped (s w : List ℕ) (r bits : ℕ) (w′ : List ℕ) : Type 0 where
   pub twice : (k : ℕ) → Linked s w k → Linked s w′ (2 * k)
   pub all : bits ≡ 0 → (v : ℕ) → v < length s → getD w′ v 0 ≡ r

@@ -1,5 +1,5 @@
 // Checking a sheet, building its three tables, and comparing lent tables with it: tests 1 to 8 of document 01's table. Each call takes a time
-// proportional to the number of cells that it is lent.
+// at most proportional to n log n for n parts, which is the size of the tables; a check usually takes a few passes over the sheet.
 
 mod fill;
 mod fits;
@@ -125,7 +125,7 @@ fn admit(parents: &[u16], unfit: usize, work: &mut [u16]) -> Outcome
     r
 }
 
-// Tests 4 to 7. The cells of `work` are left with the links of the loop test.
+// Tests 4 to 7. The loop test keeps its links in `work`.
 fn test_tree(parents: &[u16], work: &mut [u16]) -> Outcome
     requires { ⌜ Roomy (now parents) (now work) ⌝ }
     ensures { λ r. ⌜ verdictOf r ≡ verdict (treeTests (now (parents .entry))) ⌝ }
