@@ -1,12 +1,12 @@
--- `log2`, by what it is: 2 ^ log2 n is the greatest power of two that is at most n. From that, the step of a ladder of shifts.
+-- `log2`, by what it is: 2 ^ log2 n is the greatest power of two that is at most n.
 -- Assumes nothing.
 use mathlib.Core.Path.{_≡_}
-use Prim.Native.Nat.{ℕ, zero, suc, _+_, _/_, _^_, _≤_, _<_, zero-le}
-use native.Mathlib.Nat.{le-refl, le-antisymm, lt-of-lt-of-le, zero-lt-suc, add-comm, add-suc, one-mul, pow-suc, le-div-iff-mul-le, div-lt-iff-lt-mul}
+use Prim.Native.Nat.{ℕ, zero, suc, _/_, _^_, _≤_, _<_, zero-le}
+use native.Mathlib.Nat.{le-refl, le-antisymm, lt-of-lt-of-le, zero-lt-suc, pow-suc}
 use native.Mathlib.Decide.{decLe}
 use native.Mathlib.Omega.{arith}
 use lib.Arith.{half-le}
-use lib.Pow.{pow-pos, pow-mono, pow-add}
+use lib.Pow.{pow-pos, pow-mono}
 use borrow.Author.Tests.{lt-ltb, le-ltb}
 use Rattle.bits.specs.Bits.{log2In, log2}
 
@@ -55,12 +55,3 @@ pub log2-le : (n j : ℕ) → n < 2 ^ suc j → log2 n ≤ j
 unfolding log2 log2In
 log2-le zero j h = zero-le
 log2-le (suc n) j h = place-le (suc n) (log2 (suc n)) j (log2-low (suc n) (zero-lt-suc n)) h
-
--- what log2 counts of a number with a one bit at place k or above: k, and then the digits from k on
-pub log2-drop : (n k : ℕ) → 2 ^ k ≤ n → log2 n ≡ k + log2 (n / 2 ^ k)
-log2-drop n k h =
-    let m = n / 2 ^ k in
-    log2-unique n (k + log2 m)
-    (rw (add-comm k (log2 m), pow-add)
-    (le-div-iff-mul-le (pow-pos k) .0 (log2-low m (le-div-iff-mul-le (pow-pos k) .1 (rw one-mul h)))))
-    (rw (← add-suc k (log2 m), add-comm k (suc (log2 m)), pow-add) (div-lt-iff-lt-mul (pow-pos k) .0 (log2-high m)))

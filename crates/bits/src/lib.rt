@@ -1,5 +1,5 @@
-// Bits of a 16-bit number: the few operations that labels, blocks and lifts are made of, by shifts and masks. Each promises a definition of specs/
-// and the range that its callers need; no caller looks at how it is found.
+// Bits of a 16-bit number: the few operations that labels, blocks and lifts are made of, by shifts, masks and counts. Each promises a definition of
+// specs/ and the range that its callers need; no caller looks at how it is found.
 
 ghost use mathlib.Core.Path.{_≡_};
 ghost use lib.Bits.{bitXor};
@@ -10,24 +10,10 @@ ghost use Rattle.bits.specs.Bits.{log2, lowestOne, clearBelow, bitsBelow
 pub fn log2(x: u16) -> u16
     ensures { λ r. ⌜ IsBelow (log2 x) 16 r ⌝ }
 {
-    let mut y = x;
-    let mut r: u16 = 0;
-    if 256 <= y {
-        y = y >> 8;
-        r = 8;
+    if x == 0 {
+        return 0;
     }
-    if 16 <= y {
-        y = y >> 4;
-        r = r + 4;
-    }
-    if 4 <= y {
-        y = y >> 2;
-        r = r + 2;
-    }
-    if 2 <= y {
-        r = r + 1;
-    }
-    r
+    15 - u16::leading_zeros(x) as u16
 }
 
 // The lowest one bit of x, as a number; 0 for 0.
