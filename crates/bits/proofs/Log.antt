@@ -2,7 +2,7 @@
 -- Assumes nothing.
 use mathlib.Core.Path.{_≡_}
 use Prim.Native.Nat.{ℕ, zero, suc, _/_, _^_, _≤_, _<_, zero-le}
-use native.Mathlib.Nat.{le-refl, le-antisymm, lt-of-lt-of-le, zero-lt-suc, pow-suc}
+use native.Mathlib.Nat.{le-refl, le-antisymm, lt-of-le-of-lt, lt-of-lt-of-le, zero-lt-suc, pow-suc}
 use native.Mathlib.Decide.{decLe}
 use native.Mathlib.Omega.{arith}
 use lib.Arith.{half-le}
@@ -55,3 +55,7 @@ pub log2-le : (n j : ℕ) → n < 2 ^ suc j → log2 n ≤ j
 unfolding log2 log2In
 log2-le zero j h = zero-le
 log2-le (suc n) j h = place-le (suc n) (log2 (suc n)) j (log2-low (suc n) (zero-lt-suc n)) h
+
+-- a greater number has it no lower
+pub log2-mono : (m n : ℕ) → m ≤ n → log2 m ≤ log2 n
+log2-mono m n h = log2-le m (log2 n) (lt-of-le-of-lt h (log2-high n))

@@ -1,19 +1,19 @@
 -- One bits: where a number's lowest and highest stand, how many there are, what two numbers have in common, and above which place they agree.
 -- Assumes nothing.
-use mathlib.Core.Path.{_≡_, sym, ap, _∙_}
+use mathlib.Core.Path.{_≡_, sym, ap, _∙_, subst}
 use mathlib.Core.Logic.{_≢_}
-use Prim.Native.Nat.{ℕ, suc, _+_, _-_, _*_, _/_, _%_, _^_, min, _≤_, _<_, suc-le-suc}
+use Prim.Native.Nat.{ℕ, suc, _+_, _-_, _*_, _/_, _%_, _^_, min, max, _≤_, _<_, suc-le-suc}
 use native.Mathlib.Nat.{le-refl, le-antisymm, lt-of-lt-of-le, one-mul, mul-assoc, pow-suc, pow-succ', pos-of-ne-zero, zero-mul, mul-pos, zero-div}
 use native.Mathlib.Nat.{div-div-eq-div-mul, div-eq-of-lt, div-lt-iff-lt-mul}
 use native.Mathlib.Decide.{decLe}
 use native.Mathlib.Omega.{arith}
-use lib.Bits.{bitAnd, bitXor, and-step, and-shr, and-le-l, and-le-r, xor-add-and, xor-shr, xor-self}
+use lib.Bits.{bitAnd, bitOr, bitXor, and-step, and-shr, and-le-l, and-le-r, or-step, or-zero-r, or-lt, or-add-and, xor-add-and, xor-shr, xor-self}
 use lib.Count.{ones, ones-cat, ones-ones}
 use lib.Dec.{lit<}
-use lib.Pow.{pow-pos, pow-mono, pow-lt, pow-add, shl-exact, shl-shr, shr-shr, high, low}
+use lib.Pow.{pow-pos, pow-mono, pow-lt, pow-add, shl-exact, shl-shr, shr-lt, shr-shr, high, low}
 use borrow.Author.Tests.{ne-eqb}
 use Rattle.bits.specs.Bits.{log2, rightmostZeros, lowestOne, clearBelow, bitsBelow}
-use Rattle.bits.proofs.Log.{log2-high, log2-unique, log2-le}
+use Rattle.bits.proofs.Log.{log2-high, log2-unique, log2-le, log2-mono}
 use Rattle.bits.proofs.Zeros.{zeros-of, zeros-divide, zeros-odd}
 
 -- a one shifted up to place i, of w places: nothing is shifted out
@@ -78,6 +78,20 @@ above-lowest m h =
     let parts : w * 2 ^ z ≡ (w / 2 * 2 + 1) * 2 ^ z = ap (λ (k : ℕ). k * 2 ^ z) split in
     rw (shift-suc m z, pow-succ') (omega arith)
 
+-- the digits above place i, and a one bit there
+pub one-above : (x i : ℕ) → bitOr (x / 2 ^ i) 1 * 2 ^ i ≡ x / 2 ^ suc i * 2 ^ suc i + 2 ^ i
+one-above x i =
+    let w = x / 2 ^ i in
+    let odd : bitOr w 1 ≡ w / 2 * 2 + 1 = omega (arith, or-step w 1, or-zero-r (w / 2)) in
+    rw (odd, shift-suc x i, pow-succ') (omega arith)
+
+-- .. are of w digits, as x was
+pub one-above-fits : (w x i : ℕ) → i < w → x < 2 ^ w → bitOr (x / 2 ^ i) 1 * 2 ^ i % 2 ^ w ≡ bitOr (x / 2 ^ i) 1 * 2 ^ i
+one-above-fits w x i b h =
+    let whole : w ≡ w - i + i = omega arith in
+    let some : 0 < w - i = omega arith in
+    shl-exact (w - i) i w (or-lt (w - i) (x / 2 ^ i) 1 (shr-lt (w - i) i (subst (λ (n : ℕ). x < 2 ^ n) whole h)) (pow-lt some)) (omega arith)
+
 -- a one bit added below the lowest: it is the lowest then
 pub added-zeros : (n i : ℕ) → i < rightmostZeros n → rightmostZeros (n + 2 ^ i) ≡ i
 added-zeros n i h =
@@ -130,6 +144,17 @@ differ-below x y j e =
     let none : bitXor x y / p ≡ 0 = xor-shr x y (suc j) ∙ ap (bitXor (x / p)) (sym e) ∙ xor-self (x / p) in
     let small : bitXor x y / p < 1 = omega arith in
     log2-le (bitXor x y) j (rw one-mul at (div-lt-iff-lt-mul (pow-pos (suc j)) .0 small))
+
+-- the highest one bit of the bits of two numbers together is the higher of theirs
+pub log2-or : (a b : ℕ) → log2 (bitOr a b) ≡ max (log2 a) (log2 b)
+log2-or a b =
+    let m = max (log2 a) (log2 b) in
+    let sum = or-add-and a b in
+    let left = and-le-l a b in
+    let right = and-le-r a b in
+    let within : (n : ℕ) → log2 n ≤ m → n < 2 ^ suc m = λ n h. lt-of-lt-of-le (log2-high n) (pow-mono (suc-le-suc h)) in
+    let most : log2 (bitOr a b) ≤ m = log2-le (bitOr a b) m (or-lt (suc m) a b (within a (omega arith)) (within b (omega arith))) in
+    omega (arith, log2-mono a (bitOr a b) (omega arith), log2-mono b (bitOr a b) (omega arith))
 
 -- a digit of two numbers' common bits is the lesser of theirs
 common-digit : (a b j : ℕ) → bitAnd a b / 2 ^ j % 2 ≡ min (a / 2 ^ j % 2) (b / 2 ^ j % 2)

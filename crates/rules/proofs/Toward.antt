@@ -16,7 +16,6 @@ use Rattle.tree.specs.Tests.{limit}
 use Rattle.tree.specs.Nodes.{Pair}
 use Rattle.tree.specs.Routes.{headAt, nearer, step1, step2, step3, labelAbove, byLabels}
 use Rattle.tree.proofs.Lcas.{pair-lca}
-use Rattle.tree.proofs.Paths.{inlabel-most-n}
 use Rattle.tree.proofs.OwnCells.{inlabel-at, ascendant-at, head-at}
 use Rattle.tree.proofs.Ascents.{path-label}
 use Rattle.tree.proofs.ByLabels.{HeadBelow, path-bit, head-below}
@@ -32,10 +31,6 @@ pub record HeadCell (s label : List ℕ) (v j iz k : ℕ) : Type 0 where
   pub small : length s ≤ limit
   pub node : getD label (5 * length s + k - 1) 0 < length s
   pub answer : IsBelow (step3 (own s) j iz v) (length s) (getD s (getD label (5 * length s + k - 1) 0) 0)
-
--- an INLABEL fits a cell
-pub toward-fits : {s : List ℕ} {v j iz : ℕ} → Toward s v j iz → iz < 65536
-toward-fits t = omega (arith, inlabel-most-n (t .small .tree) (t .top) (t .top-node))
 
 module _ {s label : List ℕ} {v j iz : ℕ} (t : Toward s v j iz) (mine : label ≡ labelTable s) where
   -- a node of the path itself

@@ -1,7 +1,7 @@
 // The steps of the label rule, as 000 numbers them, by xor, shifts and masks.
 
 ghost use mathlib.Core.Path.{_≡_};
-ghost use Prim.Native.Nat.{_<_, max};
+ghost use Prim.Native.Nat.{_<_};
 ghost use lib.ListN.{length};
 ghost use Rattle.bits.specs.Bits.{IsBelow};
 ghost use Rattle.tree.specs.Labels.{labelTable};
@@ -22,25 +22,12 @@ pub(crate) fn nearer(parents: &[u16], label: &[u16], x: usize, y: usize) -> usiz
     y
 }
 
-// Step 1: the greatest of the places of the lowest ones of both INLABELs and of the highest bit in which they differ.
+// Step 1: the greatest of the places of the lowest ones of both INLABELs and of the highest bit in which they differ:
+// the place of the highest one of all of these bits together.
 pub(crate) fn step1(ix: u16, iy: u16) -> u16
     ensures { λ r. ⌜ IsBelow (step1 ix iy) 16 r ⌝ }
 {
-    let lowest = larger(
-        bits::log2(bits::lowest_one(ix)),
-        bits::log2(bits::lowest_one(iy)),
-    );
-    larger(lowest, bits::log2(bits::xor(ix, iy)))
-}
-
-// The larger of two numbers.
-fn larger(a: u16, b: u16) -> u16
-    ensures { λ r. ⌜ r ≡ max a b ⌝ }
-{
-    if a < b {
-        return b;
-    }
-    a
+    bits::log2(bits::lowest_one(ix) | bits::lowest_one(iy) | bits::xor(ix, iy))
 }
 
 // Step 2: the place of the lowest one that both ASCENDANTs have at or above place i.
@@ -52,10 +39,10 @@ pub(crate) fn step2(i: u16, ax: u16, ay: u16) -> u16
 
 // The INLABEL with the bits of ix above place j, a one there and zeros below it.
 pub(crate) fn label_above(j: u16, ix: u16) -> u16
-    requires { ⌜ (j < 16) × (labelAbove j ix < 65536) ⌝ }
+    requires { ⌜ j < 16 ⌝ }
     ensures { λ r. ⌜ r ≡ labelAbove j ix ⌝ }
 {
-    bits::clear_below(ix, j + 1) + (1 << j)
+    ((ix >> j) | 1) << j
 }
 
 // Step 3: the lowest part at or above v on the path of INLABEL iz, whose lowest one is at place j.

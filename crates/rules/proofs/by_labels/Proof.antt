@@ -7,7 +7,7 @@ use borrow.Author.Needs.{needs}
 use lib.ListN.{length, getD}
 use Rattle.tree.specs.Routes.{labelAbove}
 use Rattle.rules.proofs.Cells.{label-cells}
-use Rattle.rules.proofs.Toward.{Steps, toward-fits, labels-equal, labels-other}
+use Rattle.rules.proofs.Toward.{Steps, labels-equal, labels-other}
 use Rattle.rules.proofs.by_labels.Statement.{statement}
 use Rattle.rules.proofs.by_labels.Tie as tie
 
@@ -90,7 +90,7 @@ step2-requires : tie.Need-step2-requires
 step2-requires c κs = search needs
 
 label-above-requires : tie.Need-label-above-requires
-label-above-requires c κs = (c .step2 .ensures .below, toward-fits (climbs c .left))
+label-above-requires c κs = search needs
 
 step3-requires : tie.Need-step3-requires
 step3-requires c κs = (paths c .left, c .before .before .before .before .before .before .before .before .before .before .pre .1)

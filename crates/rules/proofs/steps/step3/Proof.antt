@@ -60,7 +60,7 @@ log2-requires : tie.Need-log2-requires
 log2-requires c κs = search needs
 
 label-above-requires : tie.Need-label-above-requires
-label-above-requires c κs = let d = below c in (c .log2 .ensures .below, omega arith)
+label-above-requires c κs = search needs
 
 cast-below : tie.Need-cast-below
 cast-below c = search needs
