@@ -1,3 +1,4 @@
 -- The laws of this crate.
 pub mod Reading
 pub mod Raising
+pub mod Meeting

@@ -6,7 +6,7 @@ use native.Mathlib.Numerals.{add-one}
 use native.Mathlib.Omega.{arith}
 use mathlib.Core.Path.{_≡_, refl, sym, ap, _∙_}
 use mathlib.Core.Logic.{_≢_}
-use mathlib.Core.Bool.{Bool, true, false, cond}
+use mathlib.Core.Bool.{Bool, true, false, cond, not}
 use mathlib.Core.List.{List, [], _∷_, _++_, append-nil}
 use borrow.Author.Tests.{eq-eqb, ne-eqb}
 use lib.Dec.{eqb}
@@ -21,6 +21,19 @@ use Rattle.tree.proofs.Falling.{falling-pass, falling-skip, last-append, row-ce
 use Rattle.lifting.specs.declared.Raised.{Raised}
 use Rattle.lifting.specs.declared.Sides.{Sides}
 use Rattle.lifting.specs.Stored.{row, rowOf, storedRow, stored, Raises}
+
+-- ---- the test of a power, by the pair p that the raise gives: `staysApart` of the pair before
+
+abbrev different : Row → Bool
+different p = not (eqb (p .x) (p .y))
+
+-- both parts stay different
+pub stays-apart : {p up : Row} → up ≡ p → up .x ≢ up .y → different p ≡ true
+stays-apart e other = ap different (sym e) ∙ ap not (ne-eqb _ _ other)
+
+-- both are one
+pub meets : {p up : Row} → up ≡ p → up .x ≡ up .y → different p ≡ false
+meets e one = ap different (sym e) ∙ ap not (eq-eqb _ _ one)
 
 -- ---- the loops
 

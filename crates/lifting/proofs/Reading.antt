@@ -3,11 +3,11 @@
 use Prim.Native.Nat.{ℕ, _+_, _*_, _≤_, _<_}
 use native.Mathlib.Nat.{zero-add, suc-mul, mul-le-mul-right}
 use native.Mathlib.Omega.{arith}
-use mathlib.Core.Path.{_≡_}
+use mathlib.Core.Path.{_≡_, _∙_}
 use mathlib.Core.List.{List}
 use lib.ListN.{length, getD}
 use Rattle.bits.specs.Bits.{log2}
-use Rattle.tree.specs.Tree.{Tree}
+use Rattle.tree.specs.Tree.{Tree, level}
 use Rattle.tree.specs.Labels.{labelTable}
 use Rattle.tree.specs.Lifts.{liftTable}
 use Rattle.tree.specs.Tables.{own}
@@ -16,18 +16,26 @@ use Rattle.tree.specs.Routes.{levelAt}
 use Rattle.tree.specs.Trail.{liftAt}
 use Rattle.tree.proofs.Cells.{label-length, lift-length, lift-sizes, lift-cell}
 use Rattle.tree.proofs.Doubling.{lift-inside}
+use Rattle.tree.proofs.OwnCells.{level-at}
+use Rattle.tree.proofs.Trees.{level-below}
 
 -- LEVEL of v stands in the label table
 pub record Level (s label : List ℕ) (v : ℕ) : Type 0 where
   pub room : 2 * length s + v < length label
   pub cell : getD label (2 * length s + v) 0 ≡ levelAt (own s) v
+  pub steps : getD label (2 * length s + v) 0 ≡ level s v
+  pub few : level s v < length s
 
-level : {s label : List ℕ} (v : ℕ) → label ≡ labelTable s → v < length s → Level s label v
-level {s} v e h = record { room = rw e (omega (arith, label-length s)); cell = rw (e, zero-add) }
+level-of : {s label : List ℕ} (v : ℕ) → Tree s → label ≡ labelTable s → v < length s → Level s label v
+level-of {s} {label} v t e h =
+    let cell : getD label (2 * length s + v) 0 ≡ levelAt (own s) v = rw (e, zero-add) in
+    record { room = rw e (omega (arith, label-length s)); cell = cell; steps = cell ∙ level-at s v h; few = level-below t v h }
 
 -- .. of both parts of a pair
 pub levels : {s label : List ℕ} {x y : ℕ} → Pair s x y → label ≡ labelTable s → Level s label x × Level s label y
-levels {s} {label} {x} {y} p e = (level x e (p .left), level y e (p .right))
+levels {s} {label} {x} {y} p e =
+    let t = p .small .tree in
+    (level-of x t e (p .left), level-of y t e (p .right))
 
 -- cell v of row k stands in the lift table, and is a part
 pub record Lift (s table : List ℕ) (k v : ℕ) : Type 0 where
@@ -35,8 +43,8 @@ pub record Lift (s table : List ℕ) (k v : ℕ) : Type 0 where
   pub cell : getD table (k * length s + v) 0 ≡ liftAt (own s) k v
   pub part : getD table (k * length s + v) 0 < length s
 
-lift : {s table : List ℕ} (k v : ℕ) → Tree s → table ≡ liftTable s → k ≤ log2 (length s) → v < length s → Lift s table k v
-lift {s} k v t e b h =
+pub lift-of : {s table : List ℕ} (k v : ℕ) → Tree s → table ≡ liftTable s → k ≤ log2 (length s) → v < length s → Lift s table k v
+lift-of {s} k v t e b h =
     let n = length s in
     let rows : k * n ≤ log2 n * n = mul-le-mul-right n b in
     record {
@@ -49,4 +57,4 @@ lift {s} k v t e b h =
 pub lifts : {s table : List ℕ} {k x y : ℕ} → Pair s x y → table ≡ liftTable s → k ≤ log2 (length s) → Lift s table k x × Lift s table k y
 lifts {s} {table} {k} {x} {y} p e b =
     let t = p .small .tree in
-    (lift k x t e b (p .left), lift k y t e b (p .right))
+    (lift-of k x t e b (p .left), lift-of k y t e b (p .right))

@@ -1,6 +1,7 @@
 // The carrier of one pair of an accepted sheet's parts by the lift rule, and the trail of its lifts. The tables are the sheet's own: a call of `routes`
 // has compared them.
 
+mod meet;
 mod raise;
 
 ghost use mathlib.Core.Path.{_≡_};
@@ -27,9 +28,6 @@ pub struct Raised {
     pub lifts: usize,
 }
 
-// Cells for 32 rows.
-const TRAIL: usize = 64;
-
 // Raises x and y to their carrier by falling powers of two, and stores each lift as a row in the 64 cells of `rows`.
 pub fn trail(
     parents: &[u16],
@@ -49,12 +47,14 @@ pub fn trail(
     raise::raised(parents, lift, level.x, level.y, level.lifts, rows)
 }
 
-// The carrier of x and y by lifts: where the trail ends.
+// The carrier of x and y by lifts: where the trail ends, with no row of it kept.
 pub fn by_lifts(parents: &[u16], label: &[u16], lift: &[u16], x: usize, y: usize) -> usize
     requires { ⌜ Pair (now parents) x y × (now label ≡ labelTable (now parents)) × (now lift ≡ liftTable (now parents)) ⌝ }
     ensures { λ r. ⌜ IsBelow (byLifts (own (now (parents .entry))) x y) (length (now (parents .entry))) r ⌝ }
 {
-    let mut rows = [0u16; TRAIL];
-    let end = trail(parents, label, lift, x, y, &mut rows);
-    end.x
+    let level = meet::levelled(parents, label, lift, x, y);
+    if level.x == level.y {
+        return level.x;
+    }
+    meet::meeting(parents, label, lift, level.x, level.y)
 }

@@ -122,7 +122,7 @@ fn raise_deeper(parents: &[u16], label: &[u16], lift: &[u16], k: usize, x: usize
 }
 
 // Both parts raised by 2^k.
-fn raise_both(parents: &[u16], lift: &[u16], k: usize, x: usize, y: usize) -> Sides
+pub(crate) fn raise_both(parents: &[u16], lift: &[u16], k: usize, x: usize, y: usize) -> Sides
     requires { ⌜ Pair (now parents) x y × (now lift ≡ liftTable (now parents)) × (k ≤ log2 (length (now parents))) ⌝ }
     ensures { λ r. ⌜ (rowOf r ≡ raiseBoth (own (now (parents .entry))) k (row x y)) × Pair (now (parents .entry)) (r .x) (r .y) ⌝ }
 {

@@ -2,8 +2,7 @@
 -- Assumes nothing.
 use Prim.Native.Nat.{ℕ, _+_, _-_, _≤_, _<_, min}
 use native.Mathlib.Omega.{arith}
-use mathlib.Core.Path.{_≡_, refl, sym, ap, ap₂, _∙_, subst}
-use mathlib.Core.Logic.{_≢_}
+use mathlib.Core.Path.{_≡_, refl, sym, ap, ap₂, _∙_}
 use mathlib.Core.Bool.{cond}
 use mathlib.Core.List.{List, [], _∷_}
 use borrow.Author.Tests.{eq-eqb, ne-eqb, lt-ltb}
@@ -11,18 +10,16 @@ use lib.Count.{ones}
 use lib.Dec.{eqb}
 use lib.ListN.{length, length-append}
 use Rattle.bits.proofs.Log.{log2-le}
-use Rattle.tree.specs.Tree.{Ancestor, level, Tree}
+use Rattle.tree.specs.Tree.{level, Tree}
 use Rattle.tree.specs.Lca.{Lca, lca}
 use Rattle.tree.specs.Tables.{own}
 use Rattle.tree.specs.Tests.{limit}
 use Rattle.tree.specs.Trail.{Row, lastRow, levelled, raised, trail, byLifts, lifts, onesSum, liftCount}
-use Rattle.tree.proofs.Scans.{by-order, by-equal}
-use Rattle.tree.proofs.Climbs.{ancestor-inside, ancestor-refl}
-use Rattle.tree.proofs.Trees.{above, same-level, ancestor-antisym}
-use Rattle.tree.proofs.Lcas.{pair-found, pair-lca}
+use Rattle.tree.proofs.Scans.{by-equal}
+use Rattle.tree.proofs.Lcas.{pair-found}
 use Rattle.tree.proofs.Falling.{last-append}
-use Rattle.tree.proofs.Levelled.{pair, apart, Levelling, levelled-ones, levelled-last, levelled-most}
-use Rattle.tree.proofs.Raised.{Raising, under, raised-last, raised-ones, raised-most}
+use Rattle.tree.proofs.Levelled.{pair, apart, Levelling, pair-carried, one-carried, levelled-ones, levelled-last, levelled-most}
+use Rattle.tree.proofs.Raised.{under, two-raising, raised-last, raised-ones, raised-most}
 
 -- the rows after levelling: none where the parts are one
 abbrev afterwards : List ℕ → Row → List Row
@@ -33,30 +30,7 @@ module _ {s : List ℕ} (t : Tree s) where
 
   -- where the trail begins
   start : (x y : ℕ) → x < length s → y < length s → Levelling s (lca s (x ∷ y ∷ [])) (min (level s x) (level s y)) (pair x y)
-  start x y hx hy =
-      record { carried = record { inside-x = hx; inside-y = hy; lca = pair-lca t x y hx hy }; lesser = refl }
-
-  -- levelled parts that are one are the carrier
-  one-carried : {c shallow : ℕ} (p : Row) → Levelling s c shallow p → p .x ≡ p .y → p .x ≡ c
-  one-carried p h e =
-      let carried = h .carried in
-      let itself = ancestor-refl s (p .x) in
-      ancestor-antisym t (carried .inside-x) (ancestor-inside (t .inside) (carried .inside-x) (carried .lca .left))
-      (carried .lca .lowest (p .x) itself (subst (Ancestor s (p .x)) e itself)) (carried .lca .left)
-
-  -- .. and different ones stand below it
-  two-raising : {c shallow : ℕ} (p : Row) → Levelling s c shallow p → apart s p ≡ 0 → p .x ≢ p .y → Raising s c p
-  two-raising {c} p h none e =
-      let carried = h .carried in
-      let same : level s (p .x) ≡ level s (p .y) = omega arith in
-      let over = above t (carried .inside-x) (carried .lca .left) .lower in
-      by-order (level s (p .x)) (level s c)
-      (λ b.
-      let level-x : level s (p .x) ≡ level s c = omega arith in
-      absurd (e
-      (same-level t (carried .inside-x) (ancestor-refl s (p .x)) (carried .lca .left) level-x
-      ∙ sym (same-level t (carried .inside-y) (ancestor-refl s (p .y)) (carried .lca .right) (sym same ∙ level-x)))))
-      (λ b. record { carried = carried; same = same; below = b })
+  start x y hx hy = record { carried = pair-carried t hx hy; lesser = refl }
 
   -- from the levelled parts on
   afterwards-gives : {c shallow : ℕ} (g : ℕ) (p : Row) → Levelling s c shallow p → apart s p ≡ 0
@@ -67,11 +41,11 @@ module _ {s : List ℕ} (t : Tree s) where
       let level-x : level s (p .x) ≡ shallow = omega arith in
       by-equal (p .x) (p .y)
       (λ e.
-      let there = one-carried p h e in
+      let there = one-carried t (h .carried) e in
       let steps : shallow - level s c ≡ 0 = omega (arith, ap (level s) there) in
       rw (eq-eqb (p .x) (p .y) e, steps) (ap₂ pair there (sym e ∙ there), refl))
       (λ e.
-      let r = two-raising p h none e in
+      let r = two-raising t (h .carried) (omega arith) e in
       let below = r .below in
       let some : 0 < shallow - level s c = omega arith in
       let steps : under s c p ≡ shallow - level s c - 1 = omega arith in
@@ -93,7 +67,7 @@ module _ {s : List ℕ} (t : Tree s) where
         length-append rows rest ∙ ap (λ (m : ℕ). m + length rest) (levelled-ones t (pair x y) first ∙ ap ones gaps) ∙ sum,
       )
 
-  lifts-found : (x y : ℕ) → x < length s → y < length s → byLifts (own s) x y ≡ lca s (x ∷ y ∷ [])
+  pub lifts-found : (x y : ℕ) → x < length s → y < length s → byLifts (own s) x y ≡ lca s (x ∷ y ∷ [])
   unfolding byLifts
   lifts-found x y hx hy = ap (λ (p : Row). p .x) (trail-gives x y hx hy .0)
 

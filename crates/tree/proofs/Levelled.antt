@@ -3,8 +3,8 @@
 use Prim.Native.Nat.{ℕ, suc, _+_, _-_, _^_, _≤_, _<_, min}
 use native.Mathlib.Nat.{le-refl, le-of-suc-le-suc}
 use native.Mathlib.Omega.{arith}
-use mathlib.Core.Path.{_≡_}
-use mathlib.Core.List.{List}
+use mathlib.Core.Path.{_≡_, sym, subst}
+use mathlib.Core.List.{List, [], _∷_}
 use borrow.Author.Tests.{lt-ltb, le-ltb}
 use lib.Count.{ones}
 use lib.Dec.{leb}
@@ -12,13 +12,14 @@ use lib.ListN.{length}
 use Rattle.bits.specs.Bits.{log2}
 use Rattle.bits.proofs.Log.{log2-high}
 use Rattle.tree.specs.Tree.{climb, Ancestor, level, Tree}
+use Rattle.tree.specs.Lca.{lca}
 use Rattle.tree.specs.Lifts.{lift}
 use Rattle.tree.specs.Tables.{own}
 use Rattle.tree.specs.Trail.{Row, lastRow, liftAt, gap, raiseDeeper, levelled}
 use Rattle.tree.proofs.Scans.{by-order}
-use Rattle.tree.proofs.Climbs.{climb-inside, ancestor-climb, ancestor-trans}
-use Rattle.tree.proofs.Lcas.{PairLca}
-use Rattle.tree.proofs.Trees.{level-below, level-climb, above, ancestors-ordered}
+use Rattle.tree.proofs.Climbs.{climb-inside, ancestor-refl, ancestor-climb, ancestor-trans}
+use Rattle.tree.proofs.Lcas.{PairLca, lca-of-pair, pair-only, pair-lca}
+use Rattle.tree.proofs.Trees.{level-below, level-climb, above, ancestors-ordered, ancestor-antisym}
 use Rattle.tree.proofs.OwnCells.{level-at, lift-at}
 use Rattle.tree.proofs.Falling.{Descends, falling-most, falling-ones, falling-last}
 
@@ -73,6 +74,20 @@ module _ {s : List ℕ} (t : Tree s) where
   level-power v h = omega (arith, level-below t v h, log2-high (length s))
 
   -- ---- the carrier
+
+  -- two nodes, and their carrier
+  pub pair-carried : {x y : ℕ} → x < length s → y < length s → Carried s (lca s (x ∷ y ∷ [])) (pair x y)
+  pair-carried {x} {y} hx hy = record { inside-x = hx; inside-y = hy; lca = pair-lca t x y hx hy }
+
+  -- a row has no other
+  pub carried-only : {c : ℕ} {p : Row} → Carried s c p → lca s (p .x ∷ p .y ∷ []) ≡ c
+  carried-only h = sym (pair-only t (h .inside-x) (h .inside-y) (lca-of-pair (h .lca .left) (h .lca .right) (h .lca .lowest)))
+
+  -- of a row of one node that is the node
+  pub one-carried : {c : ℕ} {p : Row} → Carried s c p → p .x ≡ p .y → p .x ≡ c
+  one-carried {c} {p} h e =
+      let itself = ancestor-refl s (p .x) in
+      ancestor-antisym t (h .inside-x) (h .lca .part) (h .lca .lowest (p .x) itself (subst (Ancestor s (p .x)) e itself)) (h .lca .left)
 
   -- steps that do not pass what carries v leave it carrying
   carries-climb : {c v : ℕ} (k : ℕ) → v < length s → k + level s c ≤ level s v → Ancestor s c v → Ancestor s c (climb s k v)

@@ -15,8 +15,8 @@ use Rattle.tree.specs.Tree.{climb, Ancestor, level, Tree}
 use Rattle.tree.specs.Tables.{own}
 use Rattle.tree.specs.Trail.{Row, lastRow, raiseBoth, staysApart, raised}
 use Rattle.tree.proofs.Scans.{by-order}
-use Rattle.tree.proofs.Climbs.{climb-split, ancestor-climb, ancestor-inside}
-use Rattle.tree.proofs.Trees.{level-climb, above}
+use Rattle.tree.proofs.Climbs.{climb-split, ancestor-refl, ancestor-climb, ancestor-inside}
+use Rattle.tree.proofs.Trees.{level-climb, above, same-level}
 use Rattle.tree.proofs.Falling.{Descends, falling-most, falling-ones, falling-last, last-append}
 use Rattle.tree.proofs.Levelled.{pair, Carried, lift-climbs, level-power, carried-climb}
 
@@ -31,6 +31,18 @@ abbrev pub under : List ℕ → ℕ → Row → ℕ
 under s c p = level s (p .x) - suc (level s c)
 
 module _ {s : List ℕ} (t : Tree s) where
+  -- different parts of equal levels stand below their carrier
+  pub two-raising : {c : ℕ} {p : Row} → Carried s c p → level s (p .x) ≡ level s (p .y) → p .x ≢ p .y → Raising s c p
+  two-raising {c} {p} carried same e =
+      let over = above t (carried .inside-x) (carried .lca .left) .lower in
+      by-order (level s (p .x)) (level s c)
+      (λ b.
+      let level-x : level s (p .x) ≡ level s c = omega arith in
+      absurd (e
+      (same-level t (carried .inside-x) (ancestor-refl s (p .x)) (carried .lca .left) level-x
+      ∙ sym (same-level t (carried .inside-y) (ancestor-refl s (p .y)) (carried .lca .right) (sym same ∙ level-x)))))
+      (λ b. record { carried = carried; same = same; below = b })
+
   -- steps past the carrier go on from there
   climb-past : {c v : ℕ} (m : ℕ) → v < length s → level s v ≤ m + level s c → Ancestor s c v
       → climb s m v ≡ climb s (m - (level s v - level s c)) c
@@ -78,7 +90,7 @@ module _ {s : List ℕ} (t : Tree s) where
       rw (lift-climbs s k (p .x) b (carried .inside-x), lift-climbs s k (p .y) b (carried .inside-y))
       (omega arith, record { carried = carried-climb t (2 ^ k) (2 ^ k) p (omega arith) (omega arith) carried; same = omega arith; below = omega arith })
 
-  raising : (c : ℕ) → Descends (staysApart (own s)) (raiseBoth (own s)) (under s c) (Raising s c) (suc (log2 (length s)))
+  pub raising : (c : ℕ) → Descends (staysApart (own s)) (raiseBoth (own s)) (under s c) (Raising s c) (suc (log2 (length s)))
   raising c = record {
     tests = λ k p b h. raise-test k p (le-of-suc-le-suc b) h;
     falls = λ k p b h far. raise-step k p (le-of-suc-le-suc b) h far .0;
@@ -96,7 +108,7 @@ module _ {s : List ℕ} (t : Tree s) where
       let one : 1 ≡ level s v - level s c = omega arith in
       ap (λ (k : ℕ). climb s k v) one ∙ above t h a .there
 
-  last-raise : {c : ℕ} (p : Row) → Raising s c p → under s c p ≡ 0 → raiseBoth (own s) 0 p ≡ pair c c
+  pub last-raise : {c : ℕ} (p : Row) → Raising s c p → under s c p ≡ 0 → raiseBoth (own s) 0 p ≡ pair c c
   last-raise p h none =
       let carried = h .carried in
       let same = h .same in

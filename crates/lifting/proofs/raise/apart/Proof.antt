@@ -1,24 +1,17 @@
 -- `lifting::raise::apart` meets its contract: the powers below 2^j are left to try.
 -- Assumes nothing.
-use Prim.Native.Nat.{suc, _-_}
+use Prim.Native.Nat.{suc}
 use native.Mathlib.Numerals.{add-one}
-use mathlib.Core.Path.{_≡_, sym, ap, _∙_}
-use mathlib.Core.Bool.{Bool, not}
+use mathlib.Core.Path.{ap, _∙_}
 use borrow.Author.Needs.{needs}
-use borrow.Author.Tests.{eq-eqb, ne-eqb}
-use lib.Dec.{eqb}
 use lib.ListN.{length}
 use Rattle.bits.specs.Bits.{log2}
 use Rattle.tree.specs.Tables.{own}
-use Rattle.tree.specs.Trail.{Row, staysApart, raiseBoth}
-use Rattle.lifting.specs.Stored.{row, rowOf}
-use Rattle.lifting.proofs.Raising.{Trying, trying-start, trying-pass, trying-skip, trying-end}
+use Rattle.tree.specs.Trail.{staysApart, raiseBoth}
+use Rattle.lifting.specs.Stored.{row}
+use Rattle.lifting.proofs.Raising.{stays-apart, meets, Trying, trying-start, trying-pass, trying-skip, trying-end}
 use Rattle.lifting.proofs.raise.apart.Statement.{statement}
 use Rattle.lifting.proofs.raise.apart.Tie as tie
-
--- the test of a power, of the pair that it gives
-abbrev different : Row → Bool
-different p = not (eqb (p .x) (p .y))
 
 abbrev Inv-loop : tie.InvT-loop
 Inv-loop parents lift x0 y0 at rows₀ j₀ x₀ y₀ lifts₀ rows j x y lifts =
@@ -26,12 +19,6 @@ Inv-loop parents lift x0 y0 at rows₀ j₀ x₀ y₀ lifts₀ rows j x y lifts 
 
 abbrev μ-loop : tie.MeasureT-loop
 μ-loop parents lift x0 y0 at rows₀ j₀ x₀ y₀ lifts₀ rows j x y lifts = j
-
-tested : (c : tie.After-raise-both Inv-loop μ-loop) →
-    let s = c .before .before .before .before .before .before .before in
-    let l = c .before .before .loop in
-    staysApart (own (s .args .parents .now)) (l .j - 1) (row (l .x) (l .y)) ≡ different (rowOf (c .raise-both .result))
-tested c = ap different (sym (c .raise-both .ensures .0))
 
 cast-log2 : tie.Need-cast-log2 Inv-loop μ-loop
 cast-log2 c = search needs
@@ -70,7 +57,7 @@ loop-again c =
     let c4 = c .before .before .before .before in
     let c7 = c4 .before .before .before in
     let up = c4 .before .before .raise-both in
-    let passes = tested (c4 .before .before) ∙ ap not (ne-eqb _ _ (c4 .if1 .taken)) in
+    let passes = stays-apart (up .ensures .0) (c4 .if1 .taken) in
     trying-pass (c7 .before .loop .inv) (c7 .loop-test .taken) passes (up .ensures .0) (up .ensures .1) (c .before .before .store .ensures)
 
 loop-less-2 : tie.Need-loop-less-2 Inv-loop μ-loop
@@ -79,7 +66,7 @@ loop-less-2 c = search needs
 loop-again-2 : tie.Need-loop-again-2 Inv-loop μ-loop
 loop-again-2 c =
     let c3 = c .before .before .before in
-    let fails = tested (c .before .before) ∙ ap not (eq-eqb _ _ (c .if1 .left)) in
+    let fails = meets (c .before .before .raise-both .ensures .0) (c .if1 .left) in
     trying-skip (c3 .before .loop .inv) (c3 .loop-test .taken) fails
 
 same-length : tie.Need-same-length Inv-loop μ-loop
