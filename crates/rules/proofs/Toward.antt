@@ -4,35 +4,71 @@ use Prim.Native.Nat.{ℕ, _+_, _-_, _*_, _≤_, _<_}
 use native.Mathlib.Omega.{arith}
 use mathlib.Core.Path.{_≡_, sym, ap, _∙_}
 use mathlib.Core.Logic.{_≢_}
+use mathlib.Core.Bool.{cond}
 use mathlib.Core.List.{List, [], _∷_}
 use borrow.Author.Tests.{eq-eqb, ne-eqb}
+use lib.Dec.{eqb}
 use lib.ListN.{length, getD}
 use Rattle.bits.specs.Bits.{log2, rightmostZeros, bitsBelow, IsBelow}
 use Rattle.tree.specs.Tree.{parent}
 use Rattle.tree.specs.Lca.{lca}
-use Rattle.tree.specs.Labels.{inlabel, labelTable}
+use Rattle.tree.specs.Labels.{inlabel, head, labelTable}
 use Rattle.tree.specs.Tables.{own}
 use Rattle.tree.specs.Tests.{limit}
-use Rattle.tree.specs.Nodes.{Pair}
+use Rattle.tree.specs.Nodes.{Small, Pair}
 use Rattle.tree.specs.Routes.{headAt, nearer, step1, step2, step3, labelAbove, byLabels}
+use Rattle.tree.proofs.Scans.{by-equal}
 use Rattle.tree.proofs.Lcas.{pair-lca}
+use Rattle.tree.proofs.Paths.{inlabel-pos, inlabel-most-n, head-part}
 use Rattle.tree.proofs.OwnCells.{inlabel-at, ascendant-at, head-at}
 use Rattle.tree.proofs.Ascents.{path-label}
-use Rattle.tree.proofs.ByLabels.{HeadBelow, path-bit, head-below}
+use Rattle.tree.proofs.ByLabels.{path-bit, head-below}
 use Rattle.rules.specs.Steps.{Toward}
 use Rattle.rules.proofs.Cells.{label-at}
 
 -- ---- step 3
 
--- step 3's cell of HEAD, k the label that step 3 computes: a node, whose parent is what step 3 gives
-pub record HeadCell (s label : List ℕ) (v j iz k : ℕ) : Type 0 where
+-- a cell of HEAD, that of the label k, is a node, and so is the node's parent
+pub record HeadCell (s label : List ℕ) (k : ℕ) : Type 0 where
   pub some : 0 < k
   pub most : k ≤ length s
   pub small : length s ≤ limit
+  pub cell : getD label (5 * length s + k - 1) 0 ≡ headAt (own s) k
   pub node : getD label (5 * length s + k - 1) 0 < length s
-  pub answer : IsBelow (step3 (own s) j iz v) (length s) (getD s (getD label (5 * length s + k - 1) 0) 0)
+  pub above : getD s (getD label (5 * length s + k - 1) 0) 0 < length s
+
+head-cell : {s label : List ℕ} (k : ℕ) → Small s → label ≡ labelTable s → 0 < k → k ≤ length s → head s k < length s → HeadCell s label k
+unfolding parent
+head-cell {s} {label} k small mine some most h =
+    let n = length s in
+    let same : 5 * n + k - 1 ≡ 5 * n + (k - 1) = omega arith in
+    let cell : getD label (5 * n + k - 1) 0 ≡ headAt (own s) k = ap (λ (i : ℕ). getD label i 0) same ∙ label-at s mine (5 * n + (k - 1)) in
+    let node : getD label (5 * n + k - 1) 0 < n = rw (cell ∙ head-at s k some most) h in
+    record { some = some; most = most; small = small .most; cell = cell; node = node; above = small .tree .inside _ node }
+
+-- the label of which step 3 reads HEAD: v's own where v is on the path itself
+abbrev pub pathRead : List ℕ → List ℕ → ℕ → ℕ → ℕ → ℕ
+pathRead s label v j iz =
+    let iv = getD label (3 * length s + v) 0 in
+    cond (eqb iv iz) iv (labelAbove (log2 (bitsBelow j (getD label (4 * length s + v) 0))) iv)
 
 module _ {s label : List ℕ} {v j iz : ℕ} (t : Toward s v j iz) (mine : label ≡ labelTable s) where
+  inlabel-cell : getD label (3 * length s + v) 0 ≡ inlabel s v
+  inlabel-cell = label-at s mine (3 * length s + v) ∙ inlabel-at s v (t .node)
+
+  -- its HEAD
+  pub path-head : HeadCell s label (pathRead s label v j iz)
+  path-head =
+      let tree = t .small .tree in
+      by-equal (getD label (3 * length s + v) 0) iz
+      (λ e.
+      rw (eq-eqb _ _ e, inlabel-cell)
+      (head-cell (inlabel s v) (t .small) mine (inlabel-pos tree v (t .node)) (inlabel-most-n tree v (t .node)) (head-part tree v (t .node))))
+      (λ q.
+      let b = head-below tree (t .node) (t .carries) (λ e. q (inlabel-cell ∙ e ∙ sym (t .label-is))) in
+      rw (ne-eqb _ _ q, inlabel-cell, label-at s mine (4 * length s + v) ∙ ascendant-at s v (t .node), t .place-is)
+      (head-cell _ (t .small) mine (b .some) (b .most) (b .node)))
+
   -- a node of the path itself
   pub step3-here : getD label (3 * length s + v) 0 ≡ iz → IsBelow (step3 (own s) j iz v) (length s) v
   unfolding step3
@@ -41,32 +77,14 @@ module _ {s label : List ℕ} {v j iz : ℕ} (t : Toward s v j iz) (mine : label
     below = t .node;
   }
 
-  -- any other
+  -- any other: the parent of the HEAD
   pub step3-head : getD label (3 * length s + v) 0 ≢ iz
-      → HeadCell s label v j iz (labelAbove (log2 (bitsBelow j (getD label (4 * length s + v) 0))) (getD label (3 * length s + v) 0))
+      → IsBelow (step3 (own s) j iz v) (length s) (getD s (getD label (5 * length s + pathRead s label v j iz - 1) 0) 0)
   unfolding step3 parent
-  step3-head q =
-      let n = length s in
-      let k = labelAbove (log2 (bitsBelow j (getD label (4 * n + v) 0))) (getD label (3 * n + v) 0) in
-      let inlabel-cell = label-at s mine (3 * n + v) ∙ inlabel-at s v (t .node) in
-      let ascendant-cell = label-at s mine (4 * n + v) ∙ ascendant-at s v (t .node) in
-      let b : HeadBelow s (t .top) v k =
-      rw (inlabel-cell, ascendant-cell, t .place-is)
-      (head-below (t .small .tree) (t .node) (t .carries) (λ e. q (inlabel-cell ∙ e ∙ sym (t .label-is)))) in
-      let some = b .some in
-      let same : 5 * n + k - 1 ≡ 5 * n + (k - 1) = omega arith in
-      let cell : getD label (5 * n + k - 1) 0 ≡ headAt (own s) k = ap (λ (i : ℕ). getD label i 0) same ∙ label-at s mine (5 * n + (k - 1)) in
-      let head-cell = cell ∙ head-at s k some (b .most) in
-      record {
-        some = some;
-        most = b .most;
-        small = t .small .most;
-        node = rw head-cell (b .node);
-        answer = record {
-          is = rw (← label-at s mine (3 * n + v), ← label-at s mine (4 * n + v), ne-eqb _ _ q, cell);
-          below = rw head-cell (t .small .tree .inside _ (b .node));
-        };
-      }
+  step3-head q = record {
+    is = rw (path-head .cell, ← label-at s mine (3 * length s + v), ← label-at s mine (4 * length s + v), ne-eqb _ _ q);
+    below = path-head .above;
+  }
 
 -- ---- steps 1 and 2
 

@@ -1,7 +1,9 @@
 // The steps of the label rule, as 000 numbers them, by xor, shifts and masks.
 
 ghost use mathlib.Core.Path.{_≡_};
+ghost use mathlib.Core.Bool.{cond};
 ghost use Prim.Native.Nat.{_<_};
+ghost use lib.Dec.{eqb};
 ghost use lib.ListN.{length};
 ghost use Rattle.bits.specs.Bits.{IsBelow};
 ghost use Rattle.tree.specs.Labels.{labelTable};
@@ -45,18 +47,32 @@ pub(crate) fn label_above(j: u16, ix: u16) -> u16
     ((ix >> j) | 1) << j
 }
 
-// Step 3: the lowest part at or above v on the path of INLABEL iz, whose lowest one is at place j.
+// Step 3: the lowest part at or above v on the path of INLABEL iz, whose lowest one is at place j. A HEAD is read in either case, so that there is no
+// branch to mispredict.
 pub(crate) fn step3(parents: &[u16], label: &[u16], j: u16, iz: u16, v: usize) -> usize
     requires { ⌜ Toward (now parents) v j iz × (now label ≡ labelTable (now parents)) ⌝ }
     ensures { λ r. ⌜ IsBelow (step3 (own (now (parents .entry))) j iz v) (length (now (parents .entry))) r ⌝ }
 {
     let n = parents.len();
     let iv = label[3 * n + v];
-    if iv == iz {
-        return v;
-    }
     let k = bits::log2(bits::bits_below(label[4 * n + v], j));
-    let below = label_above(k, iv) as usize;
-    let head = label[5 * n + below - 1] as usize;
-    parents[head] as usize
+    let path = path_read(k, iv, iz) as usize;
+    let head = label[5 * n + path - 1] as usize;
+    let mut up = parents[head] as usize;
+    if iv == iz {
+        up = v;
+    }
+    up
+}
+
+// The INLABEL of which step 3 reads HEAD: that which k gives, or iv where iv is iz.
+fn path_read(k: u16, iv: u16, iz: u16) -> u16
+    requires { ⌜ k < 16 ⌝ }
+    ensures { λ r. ⌜ r ≡ cond (eqb iv iz) iv (labelAbove k iv) ⌝ }
+{
+    let mut path = label_above(k, iv);
+    if iv == iz {
+        path = iv;
+    }
+    path
 }

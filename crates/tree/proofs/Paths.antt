@@ -158,6 +158,13 @@ module _ {s : List ℕ} (t : Tree s) where
       (λ v h e. member-keep p all v (member-range 0 (length s) v (omega arith) (omega arith)) (eq-eqb _ _ e))
       refl
 
+  -- HEAD of a node's INLABEL is a node
+  pub head-part : (v : ℕ) → v < length s → head s (inlabel s v) < length s
+  head-part v h = elim (head-cases (inlabel s v)) [
+    | no-node unused _ ↦ absurd (unused v h refl)
+    | top-node u hu _ _ found ↦ rw found hu
+  ]
+
   -- HEAD of a top node's INLABEL is the node
   pub head-top : (v : ℕ) → v < length s → Top s v → head s (inlabel s v) ≡ v
   head-top v h top = elim (head-cases (inlabel s v)) [

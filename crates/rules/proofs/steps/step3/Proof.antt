@@ -1,30 +1,22 @@
--- `rules::steps::step3` meets its contract: the cell of HEAD that it reads is that of the label computed.
+-- `rules::steps::step3` meets its contract: the cell of HEAD that it reads is that of the label computed, or of v's own.
 -- Assumes nothing.
 use native.Mathlib.Omega.{arith}
-use Prim.Native.Nat.{_+_, _*_}
+use mathlib.Core.Path.{_≡_}
 use borrow.Author.Needs.{needs}
-use lib.ListN.{length, getD}
-use Rattle.tree.specs.Routes.{labelAbove}
 use Rattle.rules.proofs.Cells.{label-cells}
-use Rattle.rules.proofs.Toward.{HeadCell, step3-here, step3-head}
+use Rattle.rules.proofs.Toward.{HeadCell, pathRead, path-head, step3-here, step3-head}
 use Rattle.rules.proofs.steps.step3.Statement.{statement}
 use Rattle.rules.proofs.steps.step3.Tie as tie
 
--- the label of which HEAD is read, once its place is known
-below : (c : tie.After-log2)
+-- the label of which HEAD is read
+path : (c : tie.After-path-read)
     → let a = c .before .before .before .before .before .before .before .args in
-    HeadCell (a .parents .now) (a .label .now) (a .v) (a .j) (a .iz)
-    (labelAbove (c .log2 .result) (getD (a .label .now) (3 * length (a .parents .now) + a .v) 0))
-below c =
-    let c3 = c .before .before .before in
-    let s = c3 .before .before .before .before in
-    rw (c .log2 .ensures .is, c .before .bits-below .ensures) (step3-head (s .pre .0) (s .pre .1) (c3 .if1 .left))
+    c .path-read .result ≡ pathRead (a .parents .now) (a .label .now) (a .v) (a .j) (a .iz)
+path c = rw (c .path-read .ensures, c .before .log2 .ensures .is, c .before .before .bits-below .ensures)
 
--- .. and once it is made
-head : (c : tie.After-label-above)
-    → let a = c .before .before .before .before .before .before .before .before .args in
-    HeadCell (a .parents .now) (a .label .now) (a .v) (a .j) (a .iz) (c .label-above .result)
-head c = rw (c .label-above .ensures) (below (c .before))
+head : (c : tie.After-path-read)
+    → let a = c .before .before .before .before .before .before .before .args in HeadCell (a .parents .now) (a .label .now) (c .path-read .result)
+head c = let s = c .before .before .before .before .before .before .before in rw (path c) (path-head (s .pre .0) (s .pre .1))
 
 mul-iv : tie.Need-mul-iv
 mul-iv c = search needs
@@ -38,9 +30,6 @@ mul-iv-2 c = search needs
 shared-slice-read-iv : tie.Need-shared-slice-read-iv
 shared-slice-read-iv c = omega (arith, label-cells _ (c .before .before .before .pre .1))
 
-returns : tie.Need-returns
-returns c = let s = c .before .before .before .before in step3-here (s .pre .0) (s .pre .1) (c .if1 .taken)
-
 mul-bits-below : tie.Need-mul-bits-below
 mul-bits-below c = search needs
 
@@ -51,7 +40,7 @@ mul-bits-below-2 : tie.Need-mul-bits-below-2
 mul-bits-below-2 c = search needs
 
 shared-slice-read-bits-below : tie.Need-shared-slice-read-bits-below
-shared-slice-read-bits-below c = omega (arith, label-cells _ (c .before .before .before .before .before .pre .1))
+shared-slice-read-bits-below c = omega (arith, label-cells _ (c .before .before .before .before .pre .1))
 
 bits-below-requires : tie.Need-bits-below-requires
 bits-below-requires c κs = search needs
@@ -59,11 +48,11 @@ bits-below-requires c κs = search needs
 log2-requires : tie.Need-log2-requires
 log2-requires c κs = search needs
 
-label-above-requires : tie.Need-label-above-requires
-label-above-requires c κs = search needs
+path-read-requires : tie.Need-path-read-requires
+path-read-requires c κs = search needs
 
-cast-below : tie.Need-cast-below
-cast-below c = search needs
+cast-path : tie.Need-cast-path
+cast-path c = search needs
 
 mul-head : tie.Need-mul-head
 mul-head c = search needs
@@ -78,22 +67,28 @@ mul-head-2 : tie.Need-mul-head-2
 mul-head-2 c = let d = head c in omega arith
 
 shared-slice-read-head : tie.Need-shared-slice-read-head
-shared-slice-read-head c = let d = head (c .before) in omega (arith, label-cells _ (c .before .before .before .before .before .before .before .before .before .pre .1))
+shared-slice-read-head c = let d = head (c .before) in omega (arith, label-cells _ (c .before .before .before .before .before .before .before .before .pre .1))
 
 cast-head : tie.Need-cast-head
 cast-head c = let d = head (c .before) in omega arith
 
-mul-result : tie.Need-mul-result
-mul-result c = let d = head (c .before) in omega arith
+mul-up : tie.Need-mul-up
+mul-up c = let d = head (c .before) in omega arith
 
-shared-slice-read-result : tie.Need-shared-slice-read-result
-shared-slice-read-result c = let d = head (c .before .before) in omega arith
+shared-slice-read-up : tie.Need-shared-slice-read-up
+shared-slice-read-up c = let d = head (c .before .before) in omega arith
 
-cast-result : tie.Need-cast-result
-cast-result c = let d = head (c .before .before) in omega (arith, d .answer)
+cast-up : tie.Need-cast-up
+cast-up c = let d = head (c .before .before) in omega arith
+
+returns : tie.Need-returns
+returns c = let s = c .before .before .before .before .before .before .before .before .before .before in step3-here (s .pre .0) (s .pre .1) (c .if1 .taken)
 
 returns-2 : tie.Need-returns-2
-returns-2 c = head (c .before .before) .answer
+returns-2 c =
+    let c3 = c .before .before .before in
+    let s = c3 .before .before .before .before .before .before .before in
+    rw (path c3) (step3-head (s .pre .0) (s .pre .1) (c .if1 .left))
 
 pub step3-spec : {M : Type 1} → statement M
 step3-spec =
@@ -103,22 +98,22 @@ step3-spec =
     add-iv
     mul-iv-2
     shared-slice-read-iv
-    returns
     mul-bits-below
     add-bits-below
     mul-bits-below-2
     shared-slice-read-bits-below
     bits-below-requires
     log2-requires
-    label-above-requires
-    cast-below
+    path-read-requires
+    cast-path
     mul-head
     add-head
     sub-head
     mul-head-2
     shared-slice-read-head
     cast-head
-    mul-result
-    shared-slice-read-result
-    cast-result
+    mul-up
+    shared-slice-read-up
+    cast-up
+    returns
     returns-2)
