@@ -21,6 +21,13 @@ pub struct Sides {
     pub y: usize,
 }
 
+// A pair, the deeper part first, and by how many levels it is deeper.
+pub struct Gap {
+    pub deep: usize,
+    pub other: usize,
+    pub steps: usize,
+}
+
 // Where a pair was raised to, and the count of the lifts until there.
 pub struct Raised {
     pub x: usize,

@@ -5,7 +5,7 @@ use crate::raise;
 ghost use mathlib.Core.Path.{_≡_};
 ghost use mathlib.Core.Logic.{_≢_};
 ghost use mathlib.Core.List.{[], _∷_};
-ghost use Prim.Native.Nat.{_+_, _<_};
+ghost use Prim.Native.Nat.{_<_};
 ghost use lib.ListN.{length};
 ghost use Rattle.bits.specs.Bits.{IsBelow};
 ghost use Rattle.tree.specs.Tree.{climb, level};
@@ -20,41 +20,10 @@ pub(crate) fn levelled(parents: &[u16], label: &[u16], lift: &[u16], x: usize, y
     ensures { λ r. ⌜ Pair (now (parents .entry)) (r .x) (r .y) × (level (now (parents .entry)) (r .x) ≡ level (now (parents .entry)) (r .y))
         × (lca (now (parents .entry)) (r .x ∷ r .y ∷ []) ≡ lca (now (parents .entry)) (x ∷ y ∷ [])) ⌝ }
 {
-    let pair = deeper_first(parents, label, x, y);
+    let pair = raise::deeper_first(parents, label, x, y);
     Sides {
         x: steps_up(parents, lift, pair.deep, pair.steps),
         y: pair.other,
-    }
-}
-
-// A pair, the deeper part first, and by how many levels it is deeper.
-struct Gap {
-    deep: usize,
-    other: usize,
-    steps: usize,
-}
-
-// The same pair, the deeper part first.
-fn deeper_first(parents: &[u16], label: &[u16], x: usize, y: usize) -> Gap
-    requires { ⌜ Pair (now parents) x y × (now label ≡ labelTable (now parents)) ⌝ }
-    ensures { λ r. ⌜ Pair (now (parents .entry)) (r .deep) (r .other)
-        × (level (now (parents .entry)) (r .deep) ≡ r .steps + level (now (parents .entry)) (r .other))
-        × (lca (now (parents .entry)) (r .deep ∷ r .other ∷ []) ≡ lca (now (parents .entry)) (x ∷ y ∷ [])) ⌝ }
-{
-    let n = parents.len();
-    let i = label[2 * n + x] as usize;
-    let j = label[2 * n + y] as usize;
-    if i < j {
-        return Gap {
-            deep: y,
-            other: x,
-            steps: j - i,
-        };
-    }
-    Gap {
-        deep: x,
-        other: y,
-        steps: i - j,
     }
 }
 

@@ -1,5 +1,6 @@
 // Raising a pair by falling powers of two, each tried once from 2^l down, l = log n: to equal levels, and then while both stay different.
 
+use crate::Gap;
 use crate::Raised;
 use crate::Sides;
 ghost use mathlib.Core.Path.{_≡_};
@@ -10,8 +11,9 @@ ghost use Rattle.tree.specs.Buffers.{trailCells};
 ghost use Rattle.tree.specs.Labels.{labelTable};
 ghost use Rattle.tree.specs.Lifts.{liftTable};
 ghost use Rattle.tree.specs.Tables.{own};
-ghost use Rattle.tree.specs.Trail.{falling, gap, raiseDeeper, raiseBoth, staysApart, levelled, raised};
+ghost use Rattle.tree.specs.Trail.{falling, raiseDeeper, raiseBoth, staysApart, levelled, raised};
 ghost use Rattle.tree.specs.Nodes.{Pair};
+ghost use Rattle.lifting.specs.Gaps.{DeeperFirst};
 ghost use Rattle.lifting.specs.Stored.{row, rowOf, storedRow, Raises};
 
 // "raises the deeper part by falling powers of two to equal levels"
@@ -32,7 +34,8 @@ pub(crate) fn levelled(
     let mut lifts = 0;
     while 0 < k {
         k -= 1;
-        if 1 << k <= gap(parents, label, x, y) {
+        let apart = deeper_first(parents, label, x, y);
+        if 1 << k <= apart.steps {
             let up = raise_deeper(parents, label, lift, k, x, y);
             x = up.x;
             y = up.y;
@@ -89,18 +92,26 @@ fn apart(parents: &[u16], lift: &[u16], x0: usize, y0: usize, at: usize, rows: &
     Raised { x, y, lifts }
 }
 
-// The difference of two parts' levels.
-fn gap(parents: &[u16], label: &[u16], x: usize, y: usize) -> usize
+// The same pair, the deeper part first, and the difference of the levels.
+pub(crate) fn deeper_first(parents: &[u16], label: &[u16], x: usize, y: usize) -> Gap
     requires { ⌜ Pair (now parents) x y × (now label ≡ labelTable (now parents)) ⌝ }
-    ensures { λ r. ⌜ r ≡ gap (own (now (parents .entry))) (row x y) ⌝ }
+    ensures { λ r. ⌜ DeeperFirst (now (parents .entry)) x y r ⌝ }
 {
     let n = parents.len();
     let i = label[2 * n + x] as usize;
     let j = label[2 * n + y] as usize;
-    if j < i {
-        return i - j;
+    if i < j {
+        return Gap {
+            deep: y,
+            other: x,
+            steps: j - i,
+        };
     }
-    j - i
+    Gap {
+        deep: x,
+        other: y,
+        steps: i - j,
+    }
 }
 
 // The deeper part raised by 2^k.

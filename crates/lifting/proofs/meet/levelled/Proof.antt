@@ -13,15 +13,16 @@ deeper-first-requires c κs = search needs
 
 steps-up-requires : tie.Need-steps-up-requires
 steps-up-requires c κs =
-    let (pair, deeper, same) = c .deeper-first .ensures in
+    let r = c .deeper-first .ensures in
+    let pair = r .pair in
     let s = c .before .before .before .before in
-    (pair .small, s .pre .2, pair .left, omega (arith, level-below (pair .small .tree) _ (pair .left)))
+    (pair .small, s .pre .2, pair .left, omega (arith, r .deeper, level-below (pair .small .tree) _ (pair .left)))
 
 returns : tie.Need-returns
 returns c =
-    let (pair, deeper, same) = c .before .deeper-first .ensures in
-    let (level, equal, carrier) = levelled-pair pair _ deeper (c .steps-up .ensures) in
-    (level, equal, carrier ∙ same)
+    let r = c .before .deeper-first .ensures in
+    let (level, equal, carrier) = levelled-pair (r .pair) _ (r .deeper) (c .steps-up .ensures) in
+    (level, equal, carrier ∙ r .carrier)
 
 pub levelled-spec : {M : Type 1} → statement M
 levelled-spec = tie.close (tie.spec deeper-first-requires steps-up-requires returns)

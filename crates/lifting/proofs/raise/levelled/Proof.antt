@@ -1,9 +1,9 @@
 -- `lifting::raise::levelled` meets its contract: the powers below 2^k are left to try.
 -- Assumes nothing.
-use Prim.Native.Nat.{suc, _-_, _^_, _<_}
+use Prim.Native.Nat.{suc, _-_, _*_, _%_, _^_}
 use native.Mathlib.Numerals.{add-one}
 use native.Mathlib.Omega.{arith}
-use mathlib.Core.Path.{ap, _∙_}
+use mathlib.Core.Path.{_≡_, ap, _∙_}
 use borrow.Author.Needs.{needs}
 use borrow.Author.Tests.{le-leb, lt-leb}
 use lib.Dec.{leb}
@@ -44,11 +44,11 @@ loop-holds c =
 sub-k : tie.Need-sub-k Inv-loop μ-loop
 sub-k c = search needs
 
+deeper-first-requires : tie.Need-deeper-first-requires Inv-loop μ-loop
+deeper-first-requires c κs = search needs
+
 shl-if1 : tie.Need-shl-if1 Inv-loop μ-loop
 shl-if1 c = search needs
-
-gap-requires : tie.Need-gap-requires Inv-loop μ-loop
-gap-requires c κs = search needs
 
 raise-deeper-requires : tie.Need-raise-deeper-requires Inv-loop μ-loop
 raise-deeper-requires c κs = search needs
@@ -62,26 +62,28 @@ add-lifts c = search needs
 loop-less : tie.Need-loop-less Inv-loop μ-loop
 loop-less c = search needs
 
+-- the power compared
+power : (c : tie.After-deeper-first Inv-loop μ-loop) → 1 * 2 ^ (c .before .before .loop .k - 1) % 2 ^ 64 ≡ 2 ^ (c .before .before .loop .k - 1)
+power c =
+    let l = c .before .before .loop in
+    one-shifted 64 (l .k - 1) (omega arith)
+
 loop-again : tie.Need-loop-again Inv-loop μ-loop
 loop-again c =
     let up = c .before .before .before .before .raise-deeper in
     let c5 = c .before .before .before .before .before in
-    let l = c5 .before .before .before .loop in
-    let some : 0 < l .k = omega arith in
-    let low : l .k - 1 < 64 = omega arith in
-    let passes = rw (one-shifted 64 (l .k - 1) low, c5 .before .gap .ensures) at (c5 .if1 .taken) in
-    trying-pass (l .inv) some (le-leb _ _ passes) (up .ensures .0) (up .ensures .1) (c .before .before .store .ensures)
+    let c7 = c5 .before .before in
+    let passes = rw (power c7, c7 .deeper-first .ensures .difference) at (c5 .if1 .taken) in
+    trying-pass (c7 .before .before .loop .inv) (c7 .before .loop-test .taken) (le-leb _ _ passes) (up .ensures .0) (up .ensures .1) (c .before .before .store .ensures)
 
 loop-less-2 : tie.Need-loop-less-2 Inv-loop μ-loop
 loop-less-2 c = search needs
 
 loop-again-2 : tie.Need-loop-again-2 Inv-loop μ-loop
 loop-again-2 c =
-    let l = c .before .before .before .loop in
-    let some : 0 < l .k = omega arith in
-    let low : l .k - 1 < 64 = omega arith in
-    let fails = rw (one-shifted 64 (l .k - 1) low, c .before .gap .ensures) at (c .if1 .left) in
-    trying-skip (l .inv) some (lt-leb _ _ fails)
+    let c2 = c .before .before in
+    let fails = rw (power c2, c2 .deeper-first .ensures .difference) at (c .if1 .left) in
+    trying-skip (c2 .before .before .loop .inv) (c2 .before .loop-test .taken) (lt-leb _ _ fails)
 
 same-length : tie.Need-same-length Inv-loop μ-loop
 same-length c = search needs
@@ -102,8 +104,8 @@ levelled-spec =
     add-k
     loop-holds
     sub-k
+    deeper-first-requires
     shl-if1
-    gap-requires
     raise-deeper-requires
     store-requires
     add-lifts

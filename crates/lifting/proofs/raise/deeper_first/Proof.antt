@@ -1,12 +1,12 @@
--- `lifting::meet::deeper_first` meets its contract: both levels are the sheet's own.
+-- `lifting::raise::deeper_first` meets its contract: both levels are the sheet's own.
 -- Assumes nothing.
 use native.Mathlib.Omega.{arith}
 use mathlib.Core.Path.{refl}
 use borrow.Author.Needs.{needs}
 use Rattle.lifting.proofs.Reading.{levels}
 use Rattle.lifting.proofs.Meeting.{swapped}
-use Rattle.lifting.proofs.meet.deeper_first.Statement.{statement}
-use Rattle.lifting.proofs.meet.deeper_first.Tie as tie
+use Rattle.lifting.proofs.raise.deeper_first.Statement.{statement}
+use Rattle.lifting.proofs.raise.deeper_first.Tie as tie
 
 mul-i : tie.Need-mul-i
 mul-i c = search needs
@@ -46,13 +46,18 @@ returns c =
     let s = c .before .before .before in
     let p = s .pre .0 in
     let own = levels p (s .pre .1) in
-    (record { small = p .small; left = p .right; right = p .left }, omega arith, swapped p)
+    record {
+      pair = record { small = p .small; left = p .right; right = p .left };
+      difference = omega arith;
+      deeper = omega arith;
+      carrier = swapped p;
+    }
 
 returns-2 : tie.Need-returns-2
 returns-2 c =
     let s = c .before .before .before in
     let own = levels (s .pre .0) (s .pre .1) in
-    (s .pre .0, omega arith, refl)
+    record { pair = s .pre .0; difference = omega arith; deeper = omega arith; carrier = refl }
 
 pub deeper-first-spec : {M : Type 1} → statement M
 deeper-first-spec =
