@@ -1,6 +1,6 @@
 -- `lifting::raise::levelled` meets its contract: the powers below 2^k are left to try.
 -- Assumes nothing.
-use Prim.Native.Nat.{suc, _-_, _*_, _%_, _^_}
+use Prim.Native.Nat.{suc, _-_, _*_, _%_, _^_, _<_}
 use native.Mathlib.Numerals.{add-one}
 use native.Mathlib.Omega.{arith}
 use mathlib.Core.Path.{_≡_, ap, _∙_}
@@ -73,8 +73,10 @@ loop-again c =
     let up = c .before .before .before .before .raise-deeper in
     let c5 = c .before .before .before .before .before in
     let c7 = c5 .before .before in
+    let l = c7 .before .before .loop in
+    let some : 0 < l .k = omega arith in
     let passes = rw (power c7, c7 .deeper-first .ensures .difference) at (c5 .if1 .taken) in
-    trying-pass (c7 .before .before .loop .inv) (c7 .before .loop-test .taken) (le-leb _ _ passes) (up .ensures .0) (up .ensures .1) (c .before .before .store .ensures)
+    trying-pass (l .inv) some (le-leb _ _ passes) (up .ensures .0) (up .ensures .1) (c .before .before .store .ensures)
 
 loop-less-2 : tie.Need-loop-less-2 Inv-loop μ-loop
 loop-less-2 c = search needs
@@ -82,8 +84,10 @@ loop-less-2 c = search needs
 loop-again-2 : tie.Need-loop-again-2 Inv-loop μ-loop
 loop-again-2 c =
     let c2 = c .before .before in
+    let l = c2 .before .before .loop in
+    let some : 0 < l .k = omega arith in
     let fails = rw (power c2, c2 .deeper-first .ensures .difference) at (c .if1 .left) in
-    trying-skip (c2 .before .before .loop .inv) (c2 .before .loop-test .taken) (lt-leb _ _ fails)
+    trying-skip (l .inv) some (lt-leb _ _ fails)
 
 same-length : tie.Need-same-length Inv-loop μ-loop
 same-length c = search needs
