@@ -2,6 +2,8 @@
 -- the links and the walk
 pub mod Linking
 pub mod Walking
+-- the sums that tell PREORDER and SIZE
+pub mod Summing
 -- the columns made from those before them
 pub mod Labelled
 pub mod Filling

@@ -3,12 +3,15 @@
 
 mod along;
 mod links;
+mod sums;
 
 ghost use mathlib.Core.Path.{_≡_};
+ghost use mathlib.Core.Bool.{true};
 ghost use Prim.Native.Nat.{_+_, _-_, _*_, _^_, _≤_, _<_};
 ghost use lib.ListN.{length};
 ghost use Rattle.bits.specs.Bits.{log2};
 ghost use Rattle.tree.specs.Tree.{rootOf};
+ghost use Rattle.tree.specs.Buffers.{labelCells};
 ghost use Rattle.tree.specs.Labels.{labelTable, topmost};
 ghost use Rattle.tree.specs.Sections.{Same};
 ghost use Rattle.tree.specs.Ready.{Ready, Columns, ColumnIn};
@@ -24,6 +27,14 @@ pub fn numbers(parents: &[u16], root: usize, work: &mut [u16])
 {
     links::link(parents, work);
     links::walk(parents, root, work);
+}
+
+// Whether the PREORDER and SIZE of a lent label table are the sheet's own: sooner told than they are made. The first n cells of work are made use of.
+pub fn numbers_hold(parents: &[u16], root: usize, label: &[u16], work: &mut [u16]) -> bool
+    requires { ⌜ Ready (now parents) (now work) × (root ≡ rootOf (now parents)) × (length (now label) ≡ labelCells (length (now parents))) ⌝ }
+    ensures { λ r. ⌜ (r ≡ true → Same (now (label .entry)) 0 (labelTable (now (parents .entry))) 0 (2 * length (now (parents .entry)))) ⌝ }
+{
+    sums::hold(parents, root, label, work)
 }
 
 // Column k, from 2 on, into the n cells of work from n on.

@@ -1,0 +1,180 @@
+-- `labels::sums::add` meets its contract: the sums are those over the nodes before v, and where no bit is gathered, PREORDER follows them so far.
+-- Assumes nothing.
+use native.Mathlib.Omega.{arith}
+use borrow.Author.Needs.{needs}
+use Prim.Native.Nat.{ℕ, _+_, _-_, _*_, _≤_, _<_}
+use native.Mathlib.Numerals.{add-one}
+use mathlib.Core.Path.{_≡_, ap, _∙_}
+use mathlib.Core.List.{List}
+use lib.ListN.{length, getD, length-set}
+use Rattle.tree.specs.Tree.{parent}
+use Rattle.cells.proofs.Stretches.{no-bits}
+use Rattle.labels.specs.Sums.{Sums, Numbered}
+use Rattle.labels.proofs.Summing.{sums-more, numbered-none, numbered-more}
+use Rattle.labels.proofs.sums.add.Statement.{statement}
+use Rattle.labels.proofs.sums.add.Tie as tie
+
+abbrev Inv-loop : tie.InvT-loop
+Inv-loop parents label first end work₀ n bits₀ v₀ work bits v =
+    (first ≤ v) × (v ≤ end) × (length work ≡ length work₀) × Sums parents label work v
+    × (bits ≡ 0 → Numbered parents label first v)
+
+abbrev μ-loop : tie.MeasureT-loop
+μ-loop parents label first end work₀ n bits₀ v₀ work bits v = end - v
+
+-- the node and its parent are the sheet's, and their cells stand in the table and in work
+record Cells (s label work : List ℕ) (v : ℕ) : Type 0 where
+  node : v < length s
+  above : getD s v 0 < length s
+  columns : length label ≡ 6 * length s
+  sums : length work ≡ 4 * length s
+
+cells : (c : tie.In-loop Inv-loop μ-loop)
+    → let s = c .before .before .args in Cells (s .parents .now) (s .label .now) (c .before .loop .work) (c .before .loop .v)
+unfolding parent
+cells c =
+    let s = c .before .before in
+    let most = s .pre .most in
+    record {
+      node = omega arith;
+      above = s .pre .ready .tree .inside (c .before .loop .v) (omega arith);
+      columns = s .pre .cells;
+      sums = c .before .loop .inv .2 ∙ s .pre .ready .room;
+    }
+
+loop-holds : tie.Need-loop-holds Inv-loop μ-loop
+loop-holds c = (search needs, c .pre .ordered, search needs, c .pre .sums, λ e. numbered-none _ _ _)
+
+mul-p : tie.Need-mul-p Inv-loop μ-loop
+mul-p c = let d = cells c in omega arith
+
+shared-slice-read-p : tie.Need-shared-slice-read-p Inv-loop μ-loop
+shared-slice-read-p c = let d = cells (c .before) in omega arith
+
+cast-p : tie.Need-cast-p Inv-loop μ-loop
+cast-p c = let d = cells (c .before) in omega arith
+
+mul-sum : tie.Need-mul-sum Inv-loop μ-loop
+mul-sum c = let d = cells (c .before) in omega arith
+
+slice-read-sum : tie.Need-slice-read-sum Inv-loop μ-loop
+slice-read-sum c = let d = cells (c .before .before) in omega arith
+
+cast-sum : tie.Need-cast-sum Inv-loop μ-loop
+cast-sum c = omega (arith, c .slice-known .given (getD (c .before .before .before .before .args .parents .now) (c .before .before .before .loop .v) 0))
+
+mul-bits : tie.Need-mul-bits Inv-loop μ-loop
+mul-bits c = let d = cells (c .before .before) in omega arith
+
+shared-slice-read-bits : tie.Need-shared-slice-read-bits Inv-loop μ-loop
+shared-slice-read-bits c = let d = cells (c .before .before .before) in omega arith
+
+cast-bits : tie.Need-cast-bits Inv-loop μ-loop
+cast-bits c = omega (arith, c .shared-slice-known2 .given (c .before .before .before .before .loop .v))
+
+mul-bits-2 : tie.Need-mul-bits-2 Inv-loop μ-loop
+mul-bits-2 c = let d = cells (c .before .before .before) in omega arith
+
+shared-slice-read-bits-2 : tie.Need-shared-slice-read-bits-2 Inv-loop μ-loop
+shared-slice-read-bits-2 c = let d = cells (c .before .before .before .before) in omega arith
+
+cast-bits-2 : tie.Need-cast-bits-2 Inv-loop μ-loop
+cast-bits-2 c = omega (arith, c .shared-slice-known3 .given (getD (c .before .before .before .before .before .before .args .parents .now) (c .before .before .before .before .before .loop .v) 0))
+
+add-bits : tie.Need-add-bits Inv-loop μ-loop
+add-bits c =
+    let p = getD (c .before .before .before .before .before .before .args .parents .now) (c .before .before .before .before .before .loop .v) 0 in
+    omega (arith, c .shared-slice-known3 .given p, c .before .before .slice-known .given p)
+
+add-work : tie.Need-add-work Inv-loop μ-loop
+add-work c = let d = cells (c .before .before .before .before) in omega arith
+
+mul-work : tie.Need-mul-work Inv-loop μ-loop
+mul-work c = let d = cells (c .before .before .before .before) in omega arith
+
+shared-slice-read-work : tie.Need-shared-slice-read-work Inv-loop μ-loop
+shared-slice-read-work c = let d = cells (c .before .before .before .before .before) in omega arith
+
+cast-work : tie.Need-cast-work Inv-loop μ-loop
+cast-work c = omega (arith, c .shared-slice-known4 .given (length (c .before .before .before .before .before .before .before .args .parents .now) + c .before .before .before .before .before .before .loop .v))
+
+add-work-2 : tie.Need-add-work-2 Inv-loop μ-loop
+add-work-2 c =
+    let s = c .before .before .before .before .before .before .before .args in
+    let v = c .before .before .before .before .before .before .loop .v in
+    omega (arith, c .shared-slice-known4 .given (length (s .parents .now) + v), c .before .before .before .slice-known .given (getD (s .parents .now) v 0))
+
+cast-work-2 : tie.Need-cast-work-2 Inv-loop μ-loop
+cast-work-2 c = search needs
+
+mul-work-2 : tie.Need-mul-work-2 Inv-loop μ-loop
+mul-work-2 c = let d = cells (c .before .before .before .before .before) in omega arith
+
+slice-write-work : tie.Need-slice-write-work Inv-loop μ-loop
+slice-write-work c = let d = cells (c .before .before .before .before .before) in omega arith
+
+add-v : tie.Need-add-v Inv-loop μ-loop
+add-v c = search needs
+
+loop-less : tie.Need-loop-less Inv-loop μ-loop
+loop-less c = search needs
+
+loop-again : tie.Need-loop-again Inv-loop μ-loop
+unfolding parent
+loop-again c =
+    let c5 = c .before .before .before .before .before in
+    let l = c5 .before .loop in
+    let s = c5 .before .before in
+    let d = cells c5 in
+    let child = s .pre .child (l .v) (l .inv .0) (c5 .loop-test .taken) in (
+      omega arith,
+      omega arith,
+      simp length-set (l .inv .2),
+      rw add-one (sums-more (omega arith) (d .above) child (l .inv .3)),
+      λ z.
+          let none = no-bits _ _ _ z in
+          rw add-one (numbered-more (l .inv .4 (none .0)) (none .1 ∙ ap (λ k. getD (s .args .label .now) (getD (s .args .parents .now) (l .v) 0) 0 + k) (l .inv .3 .sum _ (d .above)))),
+    )
+
+same-length : tie.Need-same-length Inv-loop μ-loop
+same-length c = search needs
+
+returns : tie.Need-returns Inv-loop μ-loop
+returns c =
+    let l = c .before .loop in
+    let e : l .v ≡ c .before .before .args .end = omega arith in
+    (rw e at (l .inv .3), λ z. rw e at (l .inv .4 z))
+
+pub add-spec : {M : Type 1} → statement M
+add-spec =
+    tie.close
+    (tie.spec
+    Inv-loop
+    μ-loop
+    loop-holds
+    mul-p
+    shared-slice-read-p
+    cast-p
+    mul-sum
+    slice-read-sum
+    cast-sum
+    mul-bits
+    shared-slice-read-bits
+    cast-bits
+    mul-bits-2
+    shared-slice-read-bits-2
+    cast-bits-2
+    add-bits
+    add-work
+    mul-work
+    shared-slice-read-work
+    cast-work
+    add-work-2
+    cast-work-2
+    mul-work-2
+    slice-write-work
+    add-v
+    loop-less
+    loop-again
+    same-length
+    returns)
