@@ -14,7 +14,7 @@ use Rattle.tree.specs.Verdict.{accepted, refused, numberOf, placeOf, verdictOf}
 use Rattle.tree.specs.Tree.{Tree}
 use Rattle.tree.specs.Lca.{Lca, lca}
 use Rattle.tree.specs.Tables.{Lent, own}
-use Rattle.tree.specs.Routes.{byLabels}
+use Rattle.tree.specs.Routes.{byTour}
 use Rattle.tree.specs.Sharing.{firstInPreorder, lastInPreorder}
 use Rattle.tree.specs.Trail.{trail, byLifts, lifts, trailBuffer}
 use Rattle.tree.specs.Nodes.{Pair, Listed}
@@ -141,13 +141,13 @@ ends-pair {s} {question} listed =
     let (first, last) = ends-listed s question (listed .some) in
     record { small = listed .small; left = parts _ first; right = parts _ last }
 
--- .. and by labels they give the list's carrier
-pub ends-carrier : {s question : List ℕ} → Listed s question → byLabels (own s) (firstInPreorder s question) (lastInPreorder s question) ≡ lca s question
+-- .. and by the tour they give the list's carrier
+pub ends-carrier : {s question : List ℕ} → Listed s question → byTour (own s) (firstInPreorder s question) (lastInPreorder s question) ≡ lca s question
 ends-carrier {s} {question} listed =
     let t = listed .small .tree in
     let parts = question-parts s question (listed .part) in
     let pair = ends-pair listed in
-    lca-only t question _ (listed .some) parts (ends-lca t question _ (listed .some) parts (labels-lca t _ _ (pair .left) (pair .right)))
+    lca-only t question _ (listed .some) parts (ends-lca t question _ (listed .some) parts (tour-lca t _ _ (pair .left) (pair .right)))
 
 module _ (a : Asked) {r : Outcome} {after : List ℕ} (given : Admitted (a .lent) (a .work) (a .question) (listUnfit a) r after) where
   pub list-refused : {why : Refusal} → r ≡ Refused why → ListGives a r after (a .answer)

@@ -8,6 +8,7 @@ ghost use lib.ListN.{length, getD};
 ghost use Rattle.bits.specs.Bits.{IsBelow};
 ghost use Rattle.tree.specs.Buffers.{trailCells};
 ghost use Rattle.tree.specs.Labels.{labelTable};
+ghost use Rattle.tree.specs.Tour.{tourTable};
 ghost use Rattle.tree.specs.Lifts.{liftTable};
 ghost use Rattle.tree.specs.Lca.{lca};
 ghost use Rattle.tree.specs.Tables.{Lent, own};
@@ -93,11 +94,17 @@ pub(crate) fn trail(
     end.lifts
 }
 
-// Stores the carrier of a list.
-pub(crate) fn list(parents: &[u16], label: &[u16], question: &[u16], answer: &mut [u16])
-    requires { ⌜ Listed (now parents) (now question) × (length (now answer) ≡ 1) × (now label ≡ labelTable (now parents)) ⌝ }
+// Stores the carrier of a list: that of its first and last in preorder, by the tour.
+pub(crate) fn list(
+    parents: &[u16],
+    label: &[u16],
+    tour: &[u16],
+    question: &[u16],
+    answer: &mut [u16],
+)
+    requires { ⌜ Listed (now parents) (now question) × (length (now answer) ≡ 1) × (now label ≡ labelTable (now parents)) × (now tour ≡ tourTable (now parents)) ⌝ }
     ensures { λ _. ⌜ now (answer .exit) ≡ lca (now (parents .entry)) (now (question .entry)) ∷ [] ⌝ }
 {
     let ends = rules::ends(parents, label, question);
-    answer[0] = rules::by_labels(parents, label, ends.first, ends.last) as u16;
+    answer[0] = rules::by_tour(parents, label, tour, ends.first, ends.last) as u16;
 }

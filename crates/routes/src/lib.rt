@@ -190,6 +190,6 @@ pub fn list(
     let Outcome::Accepted = r else {
         return r;
     };
-    answer::list(parents, label, question, answer);
+    answer::list(parents, label, tour, question, answer);
     r
 }

@@ -39,7 +39,7 @@ list-requires : tie.Need-list-requires
 list-requires c κs =
     let given = c .before .before .before .before .before .admit .ensures in
     let ready = admitted-answerable given (c .before .enum-told .given .1) in
-    (ready .listed, list-fit _ (sym (c .before .before .before .before .before .before .before .list-unfit .ensures) ∙ ready .owned .fits), ready .owned .label)
+    (ready .listed, list-fit _ (sym (c .before .before .before .before .before .before .before .list-unfit .ensures) ∙ ready .owned .fits), ready .owned .label, ready .owned .tour)
 
 same-length-2 : tie.Need-same-length-2
 same-length-2 c = search needs
