@@ -9,7 +9,8 @@ use lib.ListN.{length, getD, set, replicate, length-replicate, getD-replicate}
 use lib.Seq.{ext-getD, getD-set-same, getD-set-other}
 use Rattle.tree.proofs.Scans.{by-equal}
 use Rattle.tree.proofs.Differences.{same-none}
-use Rattle.cells.specs.Cells.{Filled, Copied}
+use Rattle.tree.specs.Sections.{Same}
+use Rattle.cells.specs.Cells.{Filled, Copied, Agree}
 
 -- where no bit is gathered, none was before, and the two numbers do not differ in any
 pub no-bits : (bits x y : ℕ) → bitOr bits (bitXor x y) ≡ 0 → (bits ≡ 0) × (x ≡ y)
@@ -51,4 +52,13 @@ copied-more {before} {from} {after} {i} {j} {k} room f =
             (λ e. getD-set-other after (i + k) (i + x) y 0 (λ q. absurd (omega arith)) ∙ f .here .cell x (omega arith));
       };
       below = λ c h. getD-set-other after (i + k) c y 0 (λ e. absurd (omega arith)) ∙ f .below c h;
+    }
+
+-- what agrees with a stretch that equals another agrees with the other
+pub agree-same : {a b c : List ℕ} {i j l k r : ℕ} → Agree a i b j k r → Same b j c l k → Agree a i c l k r
+agree-same g q =
+    record {
+      most = g .most;
+      same = record { cell = λ x h. g .same .cell x h ∙ q .cell x (let most = g .most in omega arith) };
+      parts = λ h e. g .parts h (e ∙ sym (q .cell _ h));
     }

@@ -1,32 +1,53 @@
 -- What the rows of the tour table and of the lift table are made from.
 -- Assumes nothing.
-use Prim.Native.Nat.{ℕ, _+_, _*_, _^_, _<_}
+use Prim.Native.Nat.{ℕ, _+_, _*_, _^_, _≤_, _<_}
 use mathlib.Core.Path.{_≡_}
+use mathlib.Core.Logic.{_⊎_}
+use mathlib.Core.Bool.{cond}
 use mathlib.Core.List.{List}
+use lib.Dec.{ltb}
 use lib.ListN.{length, getD}
 use Rattle.bits.specs.Bits.{log2}
 use Rattle.tree.specs.Tree.{level}
 use Rattle.tree.specs.Preorder.{tour}
 use Rattle.tree.specs.Buffers.{visits, tourCells, liftCells}
-use Rattle.tree.specs.Tour.{tourTable}
+use Rattle.tree.specs.Tour.{sparse, tourTable}
 use Rattle.tree.specs.Lifts.{liftTable}
 use Rattle.tree.specs.Sections.{Same}
 use Rattle.tree.specs.Ready.{Ready}
 
--- the cells of work from 2n on hold the levels at the tour's positions
-pub record Levels (s work : List ℕ) : Type 0 where
-  pub at-visit : (p : ℕ) → p < visits (length s) → getD work (2 * length s + p) 0 ≡ level s (getD (tour s) p 0)
+-- the cells of work from `from` on hold the levels at the positions of the row whose blocks have `size` cells: the least of each block
+pub record RowLevels (s work : List ℕ) (from size : ℕ) : Type 0 where
+  pub at-block : (j i : ℕ) → 2 ^ j ≡ size → i + size ≤ visits (length s) → getD work (from + i) 0 ≡ level s (getD (tour s) (sparse s j i) 0)
 
--- a tour table whose row that begins at `at`, of blocks of `half` cells, is the sheet's own and is not the last, with those levels in work
-pub record SparseRow (s table : List ℕ) (at half : ℕ) (work : List ℕ) : Type 0 where
+-- the first or the second half of work's 4n cells begins at `from`
+abbrev pub Half : ℕ → ℕ → Type 0
+Half n from = (from ≡ 0) ⊎ (from ≡ 2 * n)
+
+-- the levels of a row, of blocks of `half` cells, in a half of work; the row is not the last
+pub record LevelRow (s : List ℕ) (half from : ℕ) (work : List ℕ) : Type 0 where
   pub ready : Ready s work
+  pub some : 0 < half
+  pub two : 2 * half ≤ visits (length s)
+  pub side : Half (length s) from
+  pub levels : RowLevels s work from half
+
+-- with it a tour table that is the sheet's own up to the end of that row, which begins at `at`
+pub record SparseRow (s table : List ℕ) (at half from : ℕ) (work : List ℕ) : Type 0 where
+  pub level-row : LevelRow s half from work
   pub cells : length table ≡ tourCells (length s)
   pub row : ℕ
   pub more : row < log2 (visits (length s))
   pub begins : at ≡ visits (length s) + length s + row * visits (length s)
   pub blocks : half ≡ 2 ^ row
-  pub own : Same table at (tourTable s) at (visits (length s))
-  pub levels : Levels s work
+  pub own : Same table 0 (tourTable s) 0 (at + visits (length s))
+
+-- what is read of the row at `at` for two blocks side by side, from i on, and of their levels; the position of lesser level is the next row's
+pub record TwoBlocks (s table work : List ℕ) (at half from i : ℕ) : Type 0 where
+  pub right : at + i + half < length table
+  pub right-level : from + i + half < length work
+  pub lesser : cond (ltb (getD work (from + i + half) 0) (getD work (from + i) 0)) (getD table (at + i + half) 0) (getD table (at + i) 0)
+      ≡ getD (tourTable s) (at + visits (length s) + i) 0
 
 -- a lift table whose row that begins at `at` is the sheet's own and is not the last
 pub record LiftRow (s table : List ℕ) (at : ℕ) (work : List ℕ) : Type 0 where

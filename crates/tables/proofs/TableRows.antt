@@ -1,9 +1,10 @@
 -- The loops over the rows of the lift table and of the tour table: what they start from, and what each next row is made from.
 -- Assumes nothing.
-use Prim.Native.Nat.{ℕ, suc, _+_, _*_, _≤_, _<_, zero-le}
+use Prim.Native.Nat.{ℕ, suc, _+_, _-_, _*_, _≤_, _<_, zero-le}
 use native.Mathlib.Nat.{zero-add, zero-mul, suc-mul}
 use native.Mathlib.Omega.{arith}
 use mathlib.Core.Path.{_≡_, sym, ap, _∙_}
+use mathlib.Core.Logic.{inl, inr, ⊎-elim}
 use mathlib.Core.List.{List}
 use lib.ListN.{length, getD}
 use Rattle.bits.specs.Bits.{log2}
@@ -16,8 +17,8 @@ use Rattle.tree.specs.Ready.{Ready}
 use Rattle.tree.proofs.Cells.{tour-sizes, lift-sizes, tour-table-length, lift-length, lift-cell}
 use Rattle.tree.proofs.Doubling.{lift-zero}
 use Rattle.tree.proofs.Tours.{tour-length}
-use Rattle.rows.specs.Rows.{Levels, SparseRow, LiftRow}
-use Rattle.tables.proofs.Powers.{row-not-last}
+use Rattle.rows.specs.Rows.{Half, RowLevels, SparseRow, LiftRow}
+use Rattle.tables.proofs.Powers.{row-pos, row-not-last}
 use Rattle.tables.proofs.Rowwise.{Rowwise, rowwise-start, rowwise-here}
 
 -- a tree has a node
@@ -82,15 +83,21 @@ sparse-rows-start {s} r cells same =
     rowwise-start (omega arith) (own-tour-length r ∙ tour-sizes (visits n) n (log2 (visits n))) (cells ∙ sym (own-tour-length r)) same
 
 -- what the next row is made from
-pub sparse-row : {s table work : List ℕ} {at half : ℕ} → SparseRows s table at half → Ready s work → Levels s work → 2 * half ≤ visits (length s)
-    → SparseRow s table at half work
-sparse-row {s} {table} {work} {at} {half} l r levels h = record {
-  ready = r;
+pub sparse-row : {s table work : List ℕ} {at half from : ℕ} → SparseRows s table at half → Ready s work → Half (length s) from → RowLevels s work from half
+    → 2 * half ≤ visits (length s) → SparseRow s table at half from work
+sparse-row {s} {table} {work} {at} {half} {from} l r side levels h = record {
+  level-row = record { ready = r; some = row-pos (l .row); two = h; side = side; levels = levels };
   cells = l .cells ∙ own-tour-length r;
   row = l .row .row;
   more = row-not-last (l .some) (l .row) h;
   begins = l .row .begins;
   blocks = l .row .blocks;
-  own = rowwise-here l;
-  levels = levels;
+  own = l .same;
 }
+
+-- the levels change sides with each row
+pub half-begins : (n from : ℕ) → Half n from → from ≤ 2 * n
+half-begins n from h = ⊎-elim (λ e. omega arith) (λ e. omega arith) h
+
+pub half-other : (n from : ℕ) → Half n from → Half n (2 * n - from)
+half-other n from h = ⊎-elim (λ e. inr (omega arith)) (λ e. inl (omega arith)) h

@@ -1,4 +1,5 @@
-// Filling the three tables of an accepted sheet, section by section: each is made in work and copied out.
+// Filling the three tables of an accepted sheet, section by section: each is made in work and copied out, but for the rows of the tour table after the first,
+// which are filled straight into the table.
 
 use crate::scan;
 ghost use mathlib.Core.Path.{_≡_};
@@ -68,15 +69,17 @@ fn sparse(parents: &[u16], label: &[u16], table: &mut [u16], work: &mut [u16])
 {
     let n = parents.len();
     let m = 2 * n - 1;
-    rows::first_row(parents, label, table, work);
+    rows::sparse::first_row(parents, label, table, work);
     cells::copy(table, m + n, work, 0, m);
     let mut at = m + n;
     let mut half = 1;
+    let mut from = 2 * n;
     while 2 * half <= m {
-        rows::next_row(parents, table, at, half, work);
+        rows::sparse::fill_row(parents, table, at, half, from, work);
+        rows::sparse::next_levels(parents, half, from, work);
         at += m;
         half = 2 * half;
-        cells::copy(table, at, work, 0, m);
+        from = 2 * n - from;
     }
 }
 
@@ -90,7 +93,7 @@ pub(crate) fn lift(parents: &[u16], table: &mut [u16], work: &mut [u16])
     let mut at = 0;
     let mut power = 1;
     while 2 * power <= n {
-        rows::next_lift(parents, table, at, work);
+        rows::lifts::next_lift(parents, table, at, work);
         at += n;
         power = 2 * power;
         cells::copy(table, at, work, 0, n);

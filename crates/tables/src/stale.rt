@@ -1,10 +1,11 @@
-// Comparing lent tables with an accepted sheet, section by section: each is made in work and compared, up to the first cell that differs.
+// Comparing lent tables with an accepted sheet, section by section, up to the first cell that differs. Where a section's cells can be told to be the sheet's own
+// from those before them, it is not made; the others are made in work and compared.
 
 use crate::scan;
 use tree::Outcome;
 use tree::Refusal;
 ghost use mathlib.Core.Path.{_≡_};
-ghost use Prim.Native.Nat.{_+_};
+ghost use Prim.Native.Nat.{_+_, _*_};
 ghost use lib.ListN.{length};
 ghost use Rattle.tree.specs.Buffers.{visits, labelCells, tourCells, liftCells};
 ghost use Rattle.tree.specs.Labels.{labelTable};
@@ -12,7 +13,9 @@ ghost use Rattle.tree.specs.Tour.{tourTable};
 ghost use Rattle.tree.specs.Lifts.{liftTable};
 ghost use Rattle.tree.specs.Sections.{Same, firstDifference};
 ghost use mathlib.Core.List.{[], _∷_};
+ghost use Rattle.tree.specs.Tree.{rootOf};
 ghost use Rattle.tree.specs.Ready.{Ready, Columns};
+ghost use Rattle.cells.specs.Cells.{Agree};
 ghost use Rattle.tree.specs.Verdict.{verdictOf};
 ghost use Rattle.tree.specs.Tests.{verdict, staleTable};
 ghost use Rattle.tables.specs.Sections.{Fits};
@@ -51,8 +54,7 @@ pub(crate) fn label(parents: &[u16], table: &[u16], work: &mut [u16]) -> usize
 {
     let n = parents.len();
     let root = scan::next_root(parents, 0);
-    labels::numbers(parents, root, work);
-    let same = cells::agree(table, 0, work, 2 * n, 2 * n);
+    let same = numbers(parents, root, table, work);
     if same < 2 * n {
         return same;
     }
@@ -66,6 +68,19 @@ pub(crate) fn label(parents: &[u16], table: &[u16], work: &mut [u16]) -> usize
         k += 1;
     }
     6 * n
+}
+
+// How many cells of PREORDER and SIZE are the sheet's own before the first that is not. They are made only where they are not found to be the sheet's own.
+fn numbers(parents: &[u16], root: usize, table: &[u16], work: &mut [u16]) -> usize
+    requires { ⌜ Ready (now parents) (now work) × (root ≡ rootOf (now parents)) × (length (now table) ≡ labelCells (length (now parents))) ⌝ }
+    ensures { λ r. ⌜ Agree (now (table .entry)) 0 (labelTable (now (parents .entry))) 0 (2 * length (now (parents .entry))) r ⌝ }
+{
+    let n = parents.len();
+    if labels::numbers_hold(parents, root, table, work) {
+        return 2 * n;
+    }
+    labels::numbers(parents, root, work);
+    cells::agree(table, 0, work, 2 * n, 2 * n)
 }
 
 // The first cell of a tour table that is not the sheet's own; the table's length where there is none.
@@ -98,19 +113,21 @@ fn sparse(parents: &[u16], label: &[u16], table: &[u16], work: &mut [u16]) -> us
     let m = 2 * n - 1;
     let mut at = m + n;
     let mut half = 1;
-    rows::first_row(parents, label, table, work);
+    rows::sparse::first_row(parents, label, table, work);
     let same = cells::agree(table, at, work, 0, m);
     if same < m {
         return at + same;
     }
+    let mut from = 2 * n;
     while 2 * half <= m {
-        rows::next_row(parents, table, at, half, work);
+        let same = rows::sparse::agree_row(parents, table, at, half, from, work);
+        if same < m {
+            return at + m + same;
+        }
+        rows::sparse::next_levels(parents, half, from, work);
         at += m;
         half = 2 * half;
-        let same = cells::agree(table, at, work, 0, m);
-        if same < m {
-            return at + same;
-        }
+        from = 2 * n - from;
     }
     at + m
 }
@@ -128,13 +145,12 @@ pub(crate) fn lift(parents: &[u16], table: &[u16], work: &mut [u16]) -> usize
     let mut at = 0;
     let mut power = 1;
     while 2 * power <= n {
-        rows::next_lift(parents, table, at, work);
+        let same = rows::lifts::agree_lift(parents, table, at, work);
+        if same < n {
+            return at + n + same;
+        }
         at += n;
         power = 2 * power;
-        let same = cells::agree(table, at, work, 0, n);
-        if same < n {
-            return at + same;
-        }
     }
     at + n
 }

@@ -4,7 +4,7 @@ use native.Mathlib.Omega.{arith}
 use borrow.Author.Needs.{needs}
 use Prim.Native.Nat.{_+_, _-_, _*_, _≤_}
 use native.Mathlib.Numerals.{add-one}
-use mathlib.Core.Path.{_≡_, sym, _∙_}
+use mathlib.Core.Path.{_≡_, refl, sym, _∙_}
 use lib.ListN.{length}
 use Rattle.tree.specs.Tree.{rootOf}
 use Rattle.tree.specs.Ready.{Columns}
@@ -24,7 +24,7 @@ abbrev μ-loop : tie.MeasureT-loop
 
 -- there is room for column k
 room : (c : tie.In-loop Inv-loop μ-loop)
-    → let n = length (c .before .before .before .before .before .before .before .before .before .before .before .before .before .args .parents .now) in
+    → let n = length (c .before .before .before .before .before .before .before .before .before .before .before .args .parents .now) in
     c .before .loop .k * n + n ≤ labelCells n
 room c = column-room _ _ (c .loop-test .taken)
 
@@ -35,16 +35,7 @@ numbers-requires : tie.Need-numbers-requires Inv-loop μ-loop
 unfolding rootOf
 numbers-requires c κs =
     let s = c .before .before .before .before .before in
-    (s .pre .0, c .before .next-root .ensures)
-
-mul-agree : tie.Need-mul-agree Inv-loop μ-loop
-mul-agree c = search needs
-
-mul-agree-2 : tie.Need-mul-agree-2 Inv-loop μ-loop
-mul-agree-2 c = search needs
-
-agree-requires : tie.Need-agree-requires Inv-loop μ-loop
-agree-requires c κs = search needs
+    (s .pre .0, c .before .next-root .ensures, s .pre .1)
 
 mul-if1 : tie.Need-mul-if1 Inv-loop μ-loop
 mul-if1 c = search needs
@@ -54,40 +45,40 @@ same-length c = search needs
 
 returns : tie.Need-returns Inv-loop μ-loop
 returns c =
-    let s = c .before .before .before .before .before .before .before .before .before .before .before in
+    let s = c .before .before .before .before .before .before .before .before .before in
     let own = label-length (s .args .parents .now) in
-    agree-parts-first (c .before .agree .ensures) (c .before .before .before .before .before .numbers .ensures) (omega arith) (c .if1 .taken)
+    agree-parts-first (c .before .before .before .numbers .ensures) (record { cell = λ x h. refl }) (omega arith) (c .if1 .taken)
 
 loop-holds : tie.Need-loop-holds Inv-loop μ-loop
 loop-holds c =
-    let c5 = c .before .before .before .before .before in
-    let s = c5 .before .before .before .before .before .before in
-    let numbers = c5 .numbers in
-    let own = agree-all-first (c .before .agree .ensures) (numbers .ensures) (c .if1 .left) in
-    (omega arith, omega arith, record { ready = ready-kept (s .pre .0) (numbers .kept .1 .1 .0); cells = s .pre .1; own = own })
+    let c3 = c .before .before .before in
+    let s = c3 .before .before .before .before .before .before in
+    let numbers = c3 .numbers in
+    let own = agree-all-first (numbers .ensures) (record { cell = λ x h. refl }) (c .if1 .left) in
+    (omega arith, omega arith, record { ready = ready-kept (s .pre .0) (numbers .kept .1 .1 .1 .0); cells = s .pre .1; own = own })
 
 column-requires : tie.Need-column-requires Inv-loop μ-loop
 unfolding rootOf
 column-requires c κs =
     let l = c .before .before .loop .inv in
-    (l .0, c .before .loop-test .taken, l .2, c .before .before .before .before .before .before .before .before .before .before .next-root .ensures)
+    (l .0, c .before .loop-test .taken, l .2, c .before .before .before .before .before .before .before .before .next-root .ensures)
 
-mul-agree-3 : tie.Need-mul-agree-3 Inv-loop μ-loop
-mul-agree-3 c =
+mul-agree : tie.Need-mul-agree Inv-loop μ-loop
+mul-agree c =
     let c4 = c .before .before .before .before in
-    let c17 = c4 .before .before .before .before .before .before .before .before .before .before .before .before .before in
+    let s = c4 .before .before .before .before .before .before .before .before .before .before .before in
     let most = room (c4) in
-    let small = c17 .pre .0 .small in
+    let small = s .pre .0 .small in
     omega arith
 
-agree-requires-2 : tie.Need-agree-requires-2 Inv-loop μ-loop
-agree-requires-2 c κs =
+agree-requires : tie.Need-agree-requires Inv-loop μ-loop
+agree-requires c κs =
     let c3 = c .before .before .before in
     let c5 = c3 .before .before in
     let c6 = c5 .before in
-    let c18 = c6 .before .before .before .before .before .before .before .before .before .before .before .before in
+    let s = c6 .before .before .before .before .before .before .before .before .before .before in
     let most = room (c5) in
-    let cells = c18 .pre .1 in
+    let cells = s .pre .1 in
     let ready = c6 .loop .inv .2 .ready .room in
     let kept = c3 .column .kept .1 .1 .1 .1 .0 in
     (omega arith, omega arith)
@@ -95,17 +86,17 @@ agree-requires-2 c κs =
 mul-result : tie.Need-mul-result Inv-loop μ-loop
 mul-result c =
     let c7 = c .before .before .before .before .before .before .before in
-    let c20 = c7 .before .before .before .before .before .before .before .before .before .before .before .before .before in
+    let s = c7 .before .before .before .before .before .before .before .before .before .before .before in
     let most = room (c7) in
-    let small = c20 .pre .0 .small in
+    let small = s .pre .0 .small in
     omega arith
 
 add-result : tie.Need-add-result Inv-loop μ-loop
 add-result c =
     let c7 = c .before .before .before .before .before .before .before in
-    let c20 = c7 .before .before .before .before .before .before .before .before .before .before .before .before .before in
+    let s = c7 .before .before .before .before .before .before .before .before .before .before .before in
     let most = room (c7) in
-    let small = c20 .pre .0 .small in
+    let small = s .pre .0 .small in
     let taken = c .if2 .taken in
     omega arith
 
@@ -113,7 +104,7 @@ same-length-2 : tie.Need-same-length-2 Inv-loop μ-loop
 same-length-2 c =
     let c5 = c .before .before .before .before .before in
     let c8 = c5 .before .before .before in
-    let s = c8 .before .before .before .before .before .before .before .before .before .before .before .before in
+    let s = c8 .before .before .before .before .before .before .before .before .before .before in
     c5 .column .kept .1 .1 .1 .1 .0 ∙ c8 .loop .inv .2 .ready .room ∙ sym (s .pre .0 .room)
 
 returns-2 : tie.Need-returns-2 Inv-loop μ-loop
@@ -121,10 +112,10 @@ returns-2 c =
     let c5 = c .before .before .before .before .before in
     let c7 = c5 .before .before in
     let c8 = c7 .before in
-    let c20 = c8 .before .before .before .before .before .before .before .before .before .before .before .before in
+    let s = c8 .before .before .before .before .before .before .before .before .before .before in
     let most = room (c7) in
-    let own = label-length (c20 .args .parents .now) in
-    agree-parts (c8 .loop .inv .2 .own) (c .before .agree2 .ensures) (c5 .column .ensures) (omega arith) (c .if2 .taken)
+    let own = label-length (s .args .parents .now) in
+    agree-parts (c8 .loop .inv .2 .own) (c .before .agree .ensures) (c5 .column .ensures) (omega arith) (c .if2 .taken)
 
 add-k : tie.Need-add-k Inv-loop μ-loop
 add-k c = search needs
@@ -142,7 +133,7 @@ loop-again c =
     let l = c8 .loop .inv in
     let column = c5 .column in
     let taken = c7 .loop-test .taken in
-    let own = agree-all (l .2 .own) (c .before .agree2 .ensures) (column .ensures) (c .if2 .left) in
+    let own = agree-all (l .2 .own) (c .before .agree .ensures) (column .ensures) (c .if2 .left) in
     (omega arith, omega arith, rw add-one (columns-more (ready-kept (l .2 .ready) (column .kept .1 .1 .1 .1 .0)) (l .2 .cells) own))
 
 mul-result-2 : tie.Need-mul-result-2 Inv-loop μ-loop
@@ -150,7 +141,7 @@ mul-result-2 c = search needs
 
 same-length-3 : tie.Need-same-length-3 Inv-loop μ-loop
 same-length-3 c =
-    let s = c .before .before .before .before .before .before .before .before .before .before .before .before .before in
+    let s = c .before .before .before .before .before .before .before .before .before .before .before in
     c .before .loop .inv .2 .ready .room ∙ sym (s .pre .0 .room)
 
 returns-3 : tie.Need-returns-3 Inv-loop μ-loop
@@ -168,16 +159,13 @@ label-spec =
     μ-loop
     next-root-requires
     numbers-requires
-    mul-agree
-    mul-agree-2
-    agree-requires
     mul-if1
     same-length
     returns
     loop-holds
     column-requires
-    mul-agree-3
-    agree-requires-2
+    mul-agree
+    agree-requires
     mul-result
     add-result
     same-length-2

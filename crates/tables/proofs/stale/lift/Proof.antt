@@ -1,5 +1,4 @@
--- `tables::stale::lift` meets its contract: the table's rows are the sheet's own up to the row that the loop is at, and the next is made and
--- compared.
+-- `tables::stale::lift` meets its contract: the table's rows are the sheet's own up to the row that the loop is at, and the next is compared.
 -- Assumes nothing.
 use native.Mathlib.Omega.{arith}
 use borrow.Author.Needs.{needs}
@@ -9,14 +8,15 @@ use lib.ListN.{length}
 use Rattle.tree.specs.Ready.{Ready}
 use Rattle.tree.proofs.Differences.{same-none}
 use Rattle.tree.proofs.Columns.{ready-kept}
-use Rattle.tables.proofs.Rowwise.{rowwise-small, rowwise-less, rowwise-room, rowwise-next-room, rowwise-next-fits, rowwise-next, rowwise-none}
+use Rattle.tables.proofs.Rowwise.{rowwise-small, rowwise-less, rowwise-room, rowwise-next-room, rowwise-next, rowwise-none}
 use Rattle.tables.proofs.TableRows.{LiftRows, lift-room, lift-first, lift-rows-start, lift-row}
 use Rattle.tables.proofs.Sections.{agree-all, agree-parts, agree-parts-first}
 use Rattle.tables.proofs.stale.lift.Statement.{statement}
 use Rattle.tables.proofs.stale.lift.Tie as tie
 
 abbrev Inv-loop : tie.InvT-loop
-Inv-loop parents table work₀ n same at₀ power₀ work at power = Ready parents work × LiftRows parents table at power
+Inv-loop parents table work₀ n same at₀ power₀ work at power =
+    Ready parents work × LiftRows parents table at power
 
 abbrev μ-loop : tie.MeasureT-loop
 μ-loop parents table work₀ n same at₀ power₀ work at power = length parents - power
@@ -41,73 +41,64 @@ mul-loop c =
     let most = l .0 .small in
     omega arith
 
-next-lift-requires : tie.Need-next-lift-requires Inv-loop μ-loop
-next-lift-requires c κs =
+agree-lift-requires : tie.Need-agree-lift-requires Inv-loop μ-loop
+agree-lift-requires c κs =
     let l = c .before .before .loop .inv in
     lift-row (l .1) (l .0) (c .before .loop-test .taken)
 
-add-at : tie.Need-add-at Inv-loop μ-loop
-add-at c =
-    let l = c .before .before .before .before .before .loop .inv in
-    let room = rowwise-room (l .1) in
-    omega arith
-
-mul-power : tie.Need-mul-power Inv-loop μ-loop
-mul-power c =
-    let l = c .before .before .before .before .before .loop .inv in
-    let most = l .0 .small in
-    let taken = c .before .before .before .before .loop-test .taken in
-    omega arith
-
-agree-requires-2 : tie.Need-agree-requires-2 Inv-loop μ-loop
-agree-requires-2 c κs =
-    let c3 = c .before .before .before in
-    let c5 = c3 .before .before in
-    let l = c5 .before .loop .inv in
-    let kept = c3 .next-lift .kept .1 .1 .1 .0 in
-    let room = l .0 .room in
-    rowwise-next-fits (l .1) (c5 .loop-test .taken) (omega arith)
-
 add-result : tie.Need-add-result Inv-loop μ-loop
 add-result c =
-    let l = c .before .before .before .before .before .before .before .before .loop .inv in
-    let room = rowwise-next-room (l .1) (c .before .before .before .before .before .before .before .loop-test .taken) in
+    let room = rowwise-room (c .before .before .before .before .before .before .loop .inv .1) in
+    omega arith
+
+add-result-2 : tie.Need-add-result-2 Inv-loop μ-loop
+add-result-2 c =
+    let c5 = c .before .before .before .before .before in
+    let l = c5 .before .loop .inv in
+    let room = rowwise-next-room (l .1) (c5 .loop-test .taken) in
     let cells = l .1 .cells in
     omega arith
 
 same-length : tie.Need-same-length Inv-loop μ-loop
 same-length c =
-    let c5 = c .before .before .before .before .before in
-    let c8 = c5 .before .before .before in
-    let s = c8 .before .before .before .before .before .before in
-    c5 .next-lift .kept .1 .1 .1 .0 ∙ c8 .loop .inv .0 .room ∙ sym (s .pre .0 .room)
+    let c3 = c .before .before .before in
+    let s = c .before .before .before .before .before .before .before .before .before .before .before .before in
+    c3 .agree-lift .kept .1 .1 .1 .0 ∙ c3 .before .before .before .loop .inv .0 .room ∙ sym (s .pre .0 .room)
 
 returns-2 : tie.Need-returns-2 Inv-loop μ-loop
 returns-2 c =
-    let c5 = c .before .before .before .before .before in
-    let c7 = c5 .before .before in
-    let c8 = c7 .before in
-    let l = c8 .loop .inv in
-    agree-parts (l .1 .same) (c .before .agree2 .ensures) (c5 .next-lift .ensures) (rowwise-next-room (l .1) (c7 .loop-test .taken)) (c .if2 .taken)
+    let c3 = c .before .before .before in
+    let c5 = c3 .before .before in
+    let l = c5 .before .loop .inv in
+    agree-parts (l .1 .same) (c3 .agree-lift .ensures) (record { cell = λ x h. refl }) (rowwise-next-room (l .1) (c5 .loop-test .taken)) (c .if2 .taken)
+
+add-at : tie.Need-add-at Inv-loop μ-loop
+add-at c =
+    let room = rowwise-room (c .before .before .before .before .before .before .loop .inv .1) in
+    omega arith
+
+mul-power : tie.Need-mul-power Inv-loop μ-loop
+mul-power c =
+    let l = c .before .before .before .before .before .before .loop .inv in
+    let most = l .0 .small in
+    let taken = c .before .before .before .before .before .loop-test .taken in
+    omega arith
 
 loop-less : tie.Need-loop-less Inv-loop μ-loop
 loop-less c =
-    let c7 = c .before .before .before .before .before .before .before in
-    let c8 = c7 .before in
-    rowwise-less (c8 .loop .inv .1) (c7 .loop-test .taken)
+    let c5 = c .before .before .before .before .before in
+    rowwise-less (c5 .before .loop .inv .1) (c5 .loop-test .taken)
 
 loop-again : tie.Need-loop-again Inv-loop μ-loop
 loop-again c =
-    let c5 = c .before .before .before .before .before in
-    let c7 = c5 .before .before in
-    let c8 = c7 .before in
-    let l = c8 .loop .inv in
-    let next = c5 .next-lift in
-    let same = agree-all (l .1 .same) (c .before .agree2 .ensures) (next .ensures) (c .if2 .left) in
-    (ready-kept (l .0) (next .kept .1 .1 .1 .0), rowwise-next (l .1) (c7 .loop-test .taken) refl same)
+    let c3 = c .before .before .before in
+    let c5 = c3 .before .before in
+    let l = c5 .before .loop .inv in
+    let same = agree-all (l .1 .same) (c3 .agree-lift .ensures) (record { cell = λ x h. refl }) (c .if2 .left) in
+    (ready-kept (l .0) (c3 .agree-lift .kept .1 .1 .1 .0), rowwise-next (l .1) (c5 .loop-test .taken) refl same)
 
-add-result-2 : tie.Need-add-result-2 Inv-loop μ-loop
-add-result-2 c =
+add-result-3 : tie.Need-add-result-3 Inv-loop μ-loop
+add-result-3 c =
     let room = rowwise-room (c .before .loop .inv .1) in
     omega arith
 
@@ -129,15 +120,15 @@ lift-spec =
     returns
     loop-holds
     mul-loop
-    next-lift-requires
-    add-at
-    mul-power
-    agree-requires-2
+    agree-lift-requires
     add-result
+    add-result-2
     same-length
     returns-2
+    add-at
+    mul-power
     loop-less
     loop-again
-    add-result-2
+    add-result-3
     same-length-2
     returns-3)

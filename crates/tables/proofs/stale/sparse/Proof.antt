@@ -1,26 +1,28 @@
--- `tables::stale::sparse` meets its contract: the table's rows are the sheet's own up to the row that the loop is at, and the next is made and
--- compared. The levels that each row is made from stay in work.
+-- `tables::stale::sparse` meets its contract: the table's rows are the sheet's own up to the row that the loop is at, and the next is compared. The
+-- levels at that row's positions stand in a half of work.
 -- Assumes nothing.
 use native.Mathlib.Omega.{arith}
 use borrow.Author.Needs.{needs}
 use Prim.Native.Nat.{_-_}
 use mathlib.Core.Path.{refl, sym, _∙_}
+use mathlib.Core.Logic.{inr}
 use lib.ListN.{length}
 use Rattle.tree.specs.Buffers.{visits}
 use Rattle.tree.specs.Ready.{Ready}
-use Rattle.rows.specs.Rows.{Levels}
 use Rattle.tree.proofs.Columns.{ready-kept}
-use Rattle.tables.proofs.Rowwise.{rowwise-small, rowwise-less, rowwise-room, rowwise-next-room, rowwise-next-fits, rowwise-next, rowwise-none}
-use Rattle.tables.proofs.TableRows.{SparseRows, tour-room, sparse-rows-start, sparse-row}
+use Rattle.rows.specs.Rows.{Half, RowLevels}
+use Rattle.tables.proofs.Rowwise.{rowwise-small, rowwise-less, rowwise-room, rowwise-next-room, rowwise-next, rowwise-none}
+use Rattle.tables.proofs.TableRows.{SparseRows, tour-room, sparse-rows-start, sparse-row, half-begins, half-other}
 use Rattle.tables.proofs.Sections.{agree-all, agree-parts}
 use Rattle.tables.proofs.stale.sparse.Statement.{statement}
 use Rattle.tables.proofs.stale.sparse.Tie as tie
 
 abbrev Inv-loop : tie.InvT-loop
-Inv-loop parents label table work₀ n m at₀ half₀ same work at half = Ready parents work × Levels parents work × SparseRows parents table at half
+Inv-loop parents label table work₀ n m at₀ half₀ same from₀ work at half from =
+    Ready parents work × Half (length parents) from × RowLevels parents work from half × SparseRows parents table at half
 
 abbrev μ-loop : tie.MeasureT-loop
-μ-loop parents label table work₀ n m at₀ half₀ same work at half = visits (length parents) - half
+μ-loop parents label table work₀ n m at₀ half₀ same from₀ work at half from = visits (length parents) - half
 
 mul-m : tie.Need-mul-m Inv-loop μ-loop
 mul-m c = search needs
@@ -51,6 +53,9 @@ returns c =
     let s = c5 .before .before .before .before .before .before in
     agree-parts (s .pre .2) (c .before .agree .ensures) (c5 .first-row .ensures .1) (tour-room (s .pre .0 .ready)) (c .if1 .taken)
 
+mul-from : tie.Need-mul-from Inv-loop μ-loop
+mul-from c = search needs
+
 loop-holds : tie.Need-loop-holds Inv-loop μ-loop
 loop-holds c =
     let c5 = c .before .before .before .before .before in
@@ -58,88 +63,95 @@ loop-holds c =
     let r = s .pre .0 .ready in
     let first = c5 .first-row in
     let same = agree-all (s .pre .2) (c .before .agree .ensures) (first .ensures .1) (c .if1 .left) in
-    (ready-kept r (first .kept .1 .1 .1 .0), first .ensures .0, sparse-rows-start r (s .pre .1) same)
+    (ready-kept r (first .kept .1 .1 .1 .0), inr refl, first .ensures .0, sparse-rows-start r (s .pre .1) same)
 
 mul-loop : tie.Need-mul-loop Inv-loop μ-loop
 mul-loop c =
     let l = c .loop .inv in
-    let small = rowwise-small (l .2) in
+    let small = rowwise-small (l .3) in
     let most = l .0 .small in
     omega arith
 
-next-row-requires : tie.Need-next-row-requires Inv-loop μ-loop
-next-row-requires c κs =
+agree-row-requires : tie.Need-agree-row-requires Inv-loop μ-loop
+agree-row-requires c κs =
     let l = c .before .before .loop .inv in
-    sparse-row (l .2) (l .0) (l .1) (c .before .loop-test .taken)
-
-add-at-2 : tie.Need-add-at-2 Inv-loop μ-loop
-add-at-2 c =
-    let l = c .before .before .before .before .before .loop .inv in
-    let room = rowwise-room (l .2) in
-    omega arith
-
-mul-half : tie.Need-mul-half Inv-loop μ-loop
-mul-half c =
-    let l = c .before .before .before .before .before .loop .inv in
-    let most = l .0 .small in
-    let taken = c .before .before .before .before .loop-test .taken in
-    omega arith
-
-agree-requires-2 : tie.Need-agree-requires-2 Inv-loop μ-loop
-agree-requires-2 c κs =
-    let c3 = c .before .before .before in
-    let c5 = c3 .before .before in
-    let l = c5 .before .loop .inv in
-    let kept = c3 .next-row .kept .1 .1 .1 .1 .0 in
-    let room = l .0 .room in
-    rowwise-next-fits (l .2) (c5 .loop-test .taken) (omega arith)
+    sparse-row (l .3) (l .0) (l .1) (l .2) (c .before .loop-test .taken)
 
 add-result-2 : tie.Need-add-result-2 Inv-loop μ-loop
 add-result-2 c =
-    let c7 = c .before .before .before .before .before .before .before in
-    let c8 = c7 .before in
-    let c20 = c8 .before .before .before .before .before .before .before .before .before .before .before .before in
-    let l = c8 .loop .inv in
-    let room = rowwise-next-room (l .2) (c7 .loop-test .taken) in
-    let cells = l .2 .cells in
-    let fits = c20 .good .1 .1 .0 .0 in
+    let room = rowwise-room (c .before .before .before .before .before .before .loop .inv .3) in
+    omega arith
+
+add-result-3 : tie.Need-add-result-3 Inv-loop μ-loop
+add-result-3 c =
+    let c5 = c .before .before .before .before .before in
+    let l = c5 .before .loop .inv in
+    let room = rowwise-next-room (l .3) (c5 .loop-test .taken) in
+    let cells = l .3 .cells in
+    let fits = c .before .before .before .before .before .before .before .before .before .before .before .before .before .before .before .before .before .before .good .1 .1 .0 .0 in
     omega arith
 
 same-length-2 : tie.Need-same-length-2 Inv-loop μ-loop
 same-length-2 c =
-    let c5 = c .before .before .before .before .before in
-    let c8 = c5 .before .before .before in
-    let s = c8 .before .before .before .before .before .before .before .before .before .before .before .before in
-    c5 .next-row .kept .1 .1 .1 .1 .0 ∙ c8 .loop .inv .0 .room ∙ sym (s .pre .0 .ready .room)
+    let c3 = c .before .before .before in
+    let s = c .before .before .before .before .before .before .before .before .before .before .before .before .before .before .before .before .before .before in
+    c3 .agree-row .kept .1 .1 .1 .1 .1 .0 ∙ c3 .before .before .before .loop .inv .0 .room ∙ sym (s .pre .0 .ready .room)
 
 returns-2 : tie.Need-returns-2 Inv-loop μ-loop
 returns-2 c =
-    let c5 = c .before .before .before .before .before in
-    let c7 = c5 .before .before in
-    let c8 = c7 .before in
-    let l = c8 .loop .inv in
-    let some = l .2 .some in
-    agree-parts (l .2 .same) (c .before .agree2 .ensures) (c5 .next-row .ensures .1) (rowwise-next-room (l .2) (c7 .loop-test .taken)) (omega arith)
+    let c3 = c .before .before .before in
+    let c5 = c3 .before .before in
+    let l = c5 .before .loop .inv in
+    agree-parts (l .3 .same) (c3 .agree-row .ensures .1) (record { cell = λ x h. refl }) (rowwise-next-room (l .3) (c5 .loop-test .taken)) (c .if2 .taken)
+
+next-levels-requires : tie.Need-next-levels-requires Inv-loop μ-loop
+next-levels-requires c κs =
+    let c4 = c .before .before .before .before in
+    let l = c4 .before .before .before .loop .inv in
+    sparse-row (l .3) (ready-kept (l .0) (c4 .agree-row .kept .1 .1 .1 .1 .1 .0)) (l .1) (c4 .agree-row .ensures .0) (c4 .before .before .loop-test .taken) .level-row
+
+add-at-2 : tie.Need-add-at-2 Inv-loop μ-loop
+add-at-2 c =
+    let room = rowwise-room (c .before .before .before .before .before .before .before .before .before .before .loop .inv .3) in
+    let fits = c .before .before .before .before .before .before .before .before .before .before .before .before .before .before .before .before .before .before .before .before .before .before .good .1 .1 .0 .0 in
+    omega arith
+
+mul-half : tie.Need-mul-half Inv-loop μ-loop
+mul-half c =
+    let l = c .before .before .before .before .before .before .before .before .before .before .loop .inv in
+    let small = rowwise-small (l .3) in
+    omega (arith, l .0 .small)
+
+mul-from-2 : tie.Need-mul-from-2 Inv-loop μ-loop
+mul-from-2 c = let l = c .before .before .before .before .before .before .before .before .before .before .loop .inv in omega (arith, l .0 .small)
+
+sub-from : tie.Need-sub-from Inv-loop μ-loop
+sub-from c =
+    let l = c .before .before .before .before .before .before .before .before .before .before .loop in
+    let b = half-begins _ (l .from) (l .inv .1) in
+    omega arith
 
 loop-less : tie.Need-loop-less Inv-loop μ-loop
 loop-less c =
-    let c7 = c .before .before .before .before .before .before .before in
-    let c8 = c7 .before in
-    rowwise-less (c8 .loop .inv .2) (c7 .loop-test .taken)
+    let c9 = c .before .before .before .before .before .before .before .before .before in
+    rowwise-less (c9 .before .loop .inv .3) (c9 .loop-test .taken)
 
 loop-again : tie.Need-loop-again Inv-loop μ-loop
 loop-again c =
-    let c5 = c .before .before .before .before .before in
-    let c7 = c5 .before .before in
-    let c8 = c7 .before in
-    let l = c8 .loop .inv in
-    let next = c5 .next-row in
-    let same = agree-all (l .2 .same) (c .before .agree2 .ensures) (next .ensures .1) (c .if2 .left) in
-    (ready-kept (l .0) (next .kept .1 .1 .1 .1 .0), next .ensures .0, rowwise-next (l .2) (c7 .loop-test .taken) refl same)
+    let c7 = c .before .before .before .before .before .before .before in
+    let c9 = c7 .before .before in
+    let l = c9 .before .loop in
+    let i = l .inv in
+    let k = c .before .before .next-levels in (
+      ready-kept (i .0) (k .kept .1 .1 .1 .0 ∙ c7 .agree-row .kept .1 .1 .1 .1 .1 .0),
+      half-other _ (l .from) (i .1),
+      k .ensures,
+      rowwise-next (i .3) (c9 .loop-test .taken) refl (agree-all (i .3 .same) (c7 .agree-row .ensures .1) (record { cell = λ x h. refl }) (c .before .before .before .before .if2 .left)),
+    )
 
-add-result-3 : tie.Need-add-result-3 Inv-loop μ-loop
-add-result-3 c =
-    let room = rowwise-room (c .before .loop .inv .2) in
+add-result-4 : tie.Need-add-result-4 Inv-loop μ-loop
+add-result-4 c =
+    let room = rowwise-room (c .before .loop .inv .3) in
     omega arith
 
 same-length-3 : tie.Need-same-length-3 Inv-loop μ-loop
@@ -148,7 +160,7 @@ same-length-3 c =
     c .before .loop .inv .0 .room ∙ sym (s .pre .0 .ready .room)
 
 returns-3 : tie.Need-returns-3 Inv-loop μ-loop
-returns-3 c = rowwise-none (c .before .loop .inv .2) (c .loop-test .left)
+returns-3 c = rowwise-none (c .before .loop .inv .3) (c .loop-test .left)
 
 pub sparse-spec : {M : Type 1} → statement M
 sparse-spec =
@@ -164,17 +176,21 @@ sparse-spec =
     add-result
     same-length
     returns
+    mul-from
     loop-holds
     mul-loop
-    next-row-requires
-    add-at-2
-    mul-half
-    agree-requires-2
+    agree-row-requires
     add-result-2
+    add-result-3
     same-length-2
     returns-2
+    next-levels-requires
+    add-at-2
+    mul-half
+    mul-from-2
+    sub-from
     loop-less
     loop-again
-    add-result-3
+    add-result-4
     same-length-3
     returns-3)

@@ -1,4 +1,4 @@
--- `rows::first_row` meets its contract: the row's first i cells and the levels at the first i positions stand.
+-- `rows::sparse::first_row` meets its contract: the row's first i cells and the levels at the first i positions stand.
 -- Assumes nothing.
 use native.Mathlib.Omega.{arith}
 use borrow.Author.Needs.{needs}
@@ -6,9 +6,9 @@ use Prim.Native.Nat.{_-_, _≤_}
 use mathlib.Core.Path.{_≡_}
 use lib.ListN.{length, length-set}
 use Rattle.tree.specs.Buffers.{visits}
-use Rattle.rows.proofs.Halves.{FirstRow, Stop, stop, first-row-none, first-row-more}
-use Rattle.rows.proofs.first_row.Statement.{statement}
-use Rattle.rows.proofs.first_row.Tie as tie
+use Rattle.rows.proofs.FirstRow.{FirstRow, Stop, stop, first-row-none, first-row-more, first-levels}
+use Rattle.rows.proofs.sparse.first_row.Statement.{statement}
+use Rattle.rows.proofs.sparse.first_row.Tie as tie
 
 abbrev Inv-loop : tie.InvT-loop
 Inv-loop parents label tour work₀ n m i₀ work i = (i ≤ visits (length parents)) × (length work ≡ length work₀) × FirstRow parents work i
@@ -92,7 +92,7 @@ returns c =
     let l = c .before .loop in
     let e : l .i ≡ visits (length (c .before .before .args .parents .now)) = omega arith in
     let r = rw e at (l .inv .2) in
-    (record { at-visit = r .heights }, r .own)
+    (first-levels r, r .own)
 
 pub first-row-spec : {M : Type 1} → statement M
 first-row-spec =

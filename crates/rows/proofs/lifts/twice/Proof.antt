@@ -1,4 +1,4 @@
--- `rows::next_lift` meets its contract: the first v cells of work are the next row's.
+-- `rows::lifts::twice` meets its contract: the first v cells of work are the next row's.
 -- Assumes nothing.
 use native.Mathlib.Omega.{arith}
 use borrow.Author.Needs.{needs}
@@ -9,8 +9,8 @@ use Rattle.tree.specs.Lifts.{liftTable}
 use Rattle.tree.specs.Sections.{Same}
 use Rattle.tree.proofs.Differences.{same-none, same-store}
 use Rattle.rows.proofs.Doubled.{Doubled, doubled}
-use Rattle.rows.proofs.next_lift.Statement.{statement}
-use Rattle.rows.proofs.next_lift.Tie as tie
+use Rattle.rows.proofs.lifts.twice.Statement.{statement}
+use Rattle.rows.proofs.lifts.twice.Tie as tie
 
 abbrev Inv-loop : tie.InvT-loop
 Inv-loop parents lift at work₀ n v₀ work v = (v ≤ length parents) × (length work ≡ length work₀) × Same work 0 (liftTable parents) (at + length parents) v
@@ -72,8 +72,8 @@ returns c =
     let e : l .v ≡ length (c .before .before .args .parents .now) = omega arith in
     rw e at (l .inv .2)
 
-pub next-lift-spec : {M : Type 1} → statement M
-next-lift-spec =
+pub twice-spec : {M : Type 1} → statement M
+twice-spec =
     tie.close
     (tie.spec
     Inv-loop
