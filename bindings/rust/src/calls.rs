@@ -1,0 +1,266 @@
+//! The library's calls, one function for each, with every buffer lent by the caller.
+//!
+//! A call takes slices of any length and content, and refuses what it cannot answer. [`cells`](crate::cells) gives the exact lengths that
+//! it accepts. A question of pairs has two cells for each pair, a trail's two, a list's any number; an answer has one cell for each pair,
+//! or one for a list or a trail.
+//!
+//! `work` is the call's own: what it holds before makes no difference. Afterwards it is all zero, or unchanged after refusals 1 to 3. A
+//! refused call changes no other buffer, and an accepted one fills every cell of its answer, its rows, or the tables that it builds.
+
+use crate::ffi;
+use crate::Refusal;
+
+/// Accepts a sheet that is one rooted tree (tests 1 to 7).
+pub fn check(parents: &[u16], work: &mut [u16]) -> Result<(), Refusal> {
+    let mut value = 0;
+    // SAFETY: each pointer and length are one slice's, `work` and `value` overlap nothing, and the call takes any lengths and contents.
+    let number = unsafe {
+        ffi::lca_check(
+            parents.as_ptr(),
+            parents.len(),
+            work.as_mut_ptr(),
+            work.len(),
+            &mut value,
+        )
+    };
+    outcome(number, value).map(drop)
+}
+
+/// Fills the three tables with the sheet's own (tests 1 to 7).
+pub fn build(
+    parents: &[u16],
+    label: &mut [u16],
+    tour: &mut [u16],
+    lift: &mut [u16],
+    work: &mut [u16],
+) -> Result<(), Refusal> {
+    let mut value = 0;
+    // SAFETY: as in `check`; the tables too are lent for writing, so they overlap nothing.
+    let number = unsafe {
+        ffi::lca_build(
+            parents.as_ptr(),
+            parents.len(),
+            label.as_mut_ptr(),
+            label.len(),
+            tour.as_mut_ptr(),
+            tour.len(),
+            lift.as_mut_ptr(),
+            lift.len(),
+            work.as_mut_ptr(),
+            work.len(),
+            &mut value,
+        )
+    };
+    outcome(number, value).map(drop)
+}
+
+/// Accepts tables that are the sheet's own in every cell (tests 1 to 8).
+pub fn compare(
+    parents: &[u16],
+    label: &[u16],
+    tour: &[u16],
+    lift: &[u16],
+    work: &mut [u16],
+) -> Result<(), Refusal> {
+    let mut value = 0;
+    // SAFETY: as in `check`; the tables are only read, so they may overlap one another and the sheet.
+    let number = unsafe {
+        ffi::lca_compare(
+            parents.as_ptr(),
+            parents.len(),
+            label.as_ptr(),
+            label.len(),
+            tour.as_ptr(),
+            tour.len(),
+            lift.as_ptr(),
+            lift.len(),
+            work.as_mut_ptr(),
+            work.len(),
+            &mut value,
+        )
+    };
+    outcome(number, value).map(drop)
+}
+
+/// The carrier of each pair, by the label table (tests 1 to 11).
+pub fn pairs_by_labels(
+    parents: &[u16],
+    label: &[u16],
+    tour: &[u16],
+    lift: &[u16],
+    work: &mut [u16],
+    question: &[u16],
+    answer: &mut [u16],
+) -> Result<(), Refusal> {
+    let tables = [label, tour, lift];
+    ask(
+        ffi::lca_pairs_by_labels,
+        parents,
+        tables,
+        work,
+        question,
+        answer,
+    )
+}
+
+/// The carrier of each pair, by the tour table (tests 1 to 11).
+pub fn pairs_by_tour(
+    parents: &[u16],
+    label: &[u16],
+    tour: &[u16],
+    lift: &[u16],
+    work: &mut [u16],
+    question: &[u16],
+    answer: &mut [u16],
+) -> Result<(), Refusal> {
+    let tables = [label, tour, lift];
+    ask(
+        ffi::lca_pairs_by_tour,
+        parents,
+        tables,
+        work,
+        question,
+        answer,
+    )
+}
+
+/// The carrier of each pair, by the lift table (tests 1 to 11).
+pub fn pairs_by_lifts(
+    parents: &[u16],
+    label: &[u16],
+    tour: &[u16],
+    lift: &[u16],
+    work: &mut [u16],
+    question: &[u16],
+    answer: &mut [u16],
+) -> Result<(), Refusal> {
+    let tables = [label, tour, lift];
+    ask(
+        ffi::lca_pairs_by_lifts,
+        parents,
+        tables,
+        work,
+        question,
+        answer,
+    )
+}
+
+/// The carrier of all the parts listed (tests 1 to 11).
+pub fn list(
+    parents: &[u16],
+    label: &[u16],
+    tour: &[u16],
+    lift: &[u16],
+    work: &mut [u16],
+    question: &[u16],
+    answer: &mut [u16],
+) -> Result<(), Refusal> {
+    let tables = [label, tour, lift];
+    ask(ffi::lca_list, parents, tables, work, question, answer)
+}
+
+/// The carrier of one pair, and its trail (tests 1 to 11): a row of two cells in `rows` for each lift, x's side and then y's, and
+/// [`NO_CELL`](crate::cells::NO_CELL) after them. Gives the count of lifts.
+#[allow(clippy::too_many_arguments)] // One for each buffer.
+pub fn trail(
+    parents: &[u16],
+    label: &[u16],
+    tour: &[u16],
+    lift: &[u16],
+    work: &mut [u16],
+    question: &[u16],
+    answer: &mut [u16],
+    rows: &mut [u16],
+) -> Result<u64, Refusal> {
+    let mut value = 0;
+    // SAFETY: as in `compare`; the question too is only read, and `answer` and `rows` overlap nothing.
+    let number = unsafe {
+        ffi::lca_trail(
+            parents.as_ptr(),
+            parents.len(),
+            label.as_ptr(),
+            label.len(),
+            tour.as_ptr(),
+            tour.len(),
+            lift.as_ptr(),
+            lift.len(),
+            work.as_mut_ptr(),
+            work.len(),
+            question.as_ptr(),
+            question.len(),
+            answer.as_mut_ptr(),
+            answer.len(),
+            rows.as_mut_ptr(),
+            rows.len(),
+            &mut value,
+        )
+    };
+    outcome(number, value)
+}
+
+/// A C function for pairs or a list: a pointer and a length for each of parents, label, tour, lift, work, question and answer.
+type Answering = unsafe extern "C" fn(
+    *const u16,
+    usize,
+    *const u16,
+    usize,
+    *const u16,
+    usize,
+    *const u16,
+    usize,
+    *mut u16,
+    usize,
+    *const u16,
+    usize,
+    *mut u16,
+    usize,
+    *mut u64,
+) -> u32;
+
+#[inline]
+fn ask(
+    call: Answering,
+    parents: &[u16],
+    [label, tour, lift]: [&[u16]; 3],
+    work: &mut [u16],
+    question: &[u16],
+    answer: &mut [u16],
+) -> Result<(), Refusal> {
+    let mut value = 0;
+    // SAFETY: as in `trail`; `call` is one of the library's functions of this type, each of which takes any lengths and contents.
+    let number = unsafe {
+        call(
+            parents.as_ptr(),
+            parents.len(),
+            label.as_ptr(),
+            label.len(),
+            tour.as_ptr(),
+            tour.len(),
+            lift.as_ptr(),
+            lift.len(),
+            work.as_mut_ptr(),
+            work.len(),
+            question.as_ptr(),
+            question.len(),
+            answer.as_mut_ptr(),
+            answer.len(),
+            &mut value,
+        )
+    };
+    outcome(number, value).map(drop)
+}
+
+/// The C function's result and what it left in `value`, told apart.
+fn outcome(number: u32, value: u64) -> Result<u64, Refusal> {
+    if number == 0 {
+        Ok(value)
+    } else {
+        Err(Refusal {
+            number,
+            place: value,
+        })
+    }
+}
+
+#[cfg(test)]
+mod tests;

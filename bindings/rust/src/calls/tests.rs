@@ -1,0 +1,152 @@
+//! What the C functions leave in `value`, on the sheet `1 1`.
+
+use crate::ffi;
+
+const PARENTS: [u16; 2] = [1, 1];
+
+/// The sheet's own tables, by hand: the root is part 1, and part 0 comes second.
+const LABEL: [u16; 12] = [2, 1, 1, 2, 1, 0, 2, 2, 2, 2, 65_535, 1];
+const TOUR: [u16; 11] = [1, 0, 1, 1, 0, 0, 1, 2, 0, 2, 65_535];
+const LIFT: [u16; 4] = [1, 1, 1, 1];
+
+/// What `value` holds before a call.
+const BEFORE: u64 = u64::MAX;
+
+/// Asks by `call`: the result, the answer and the value.
+fn ask(call: super::Answering, question: &[u16], label: &[u16]) -> (u32, u16, u64) {
+    let (mut work, mut answer, mut value) = ([0; 8], [9], BEFORE);
+    // SAFETY: each pointer and length are one array's, and no two of those overlap.
+    let number = unsafe {
+        call(
+            PARENTS.as_ptr(),
+            PARENTS.len(),
+            label.as_ptr(),
+            label.len(),
+            TOUR.as_ptr(),
+            TOUR.len(),
+            LIFT.as_ptr(),
+            LIFT.len(),
+            work.as_mut_ptr(),
+            work.len(),
+            question.as_ptr(),
+            question.len(),
+            answer.as_mut_ptr(),
+            answer.len(),
+            &mut value,
+        )
+    };
+    (number, answer[0], value)
+}
+
+#[test]
+fn an_accepted_question_s_value_is_0() {
+    for call in [
+        ffi::lca_pairs_by_labels,
+        ffi::lca_pairs_by_tour,
+        ffi::lca_pairs_by_lifts,
+        ffi::lca_list,
+    ] {
+        assert_eq!(ask(call, &[0, 0], &LABEL), (0, 0, 0));
+        assert_eq!(ask(call, &[0, 1], &LABEL), (0, 1, 0));
+    }
+}
+
+#[test]
+fn a_refused_question_s_value_is_the_place() {
+    for call in [
+        ffi::lca_pairs_by_labels,
+        ffi::lca_pairs_by_tour,
+        ffi::lca_pairs_by_lifts,
+        ffi::lca_list,
+    ] {
+        assert_eq!(ask(call, &[0, 2], &LABEL), (10, 9, 1));
+        assert_eq!(ask(call, &[0, 0], &LABEL[1..]), (3, 9, 1));
+        let mut stale = LABEL;
+        stale[11] = 0;
+        assert_eq!(ask(call, &[0, 2], &stale), (8, 9, 11));
+    }
+}
+
+#[test]
+fn an_accepted_check_s_value_is_0_and_a_refused_one_s_the_place() {
+    for (parents, result) in [([1, 1], (0, 0)), ([0, 1], (6, 1)), ([1, 0], (5, 0))] {
+        let (mut work, mut value) = ([7; 8], BEFORE);
+        // SAFETY: each pointer and length are one array's, and no two of those overlap.
+        let number =
+            unsafe { ffi::lca_check(parents.as_ptr(), 2, work.as_mut_ptr(), 8, &mut value) };
+        assert_eq!((number, value), result);
+        assert_eq!(work, [0; 8]);
+    }
+}
+
+#[test]
+fn building_and_comparing_leave_0() {
+    let (mut label, mut tour, mut lift) = ([9; 12], [9; 11], [9; 4]);
+    let (mut work, mut built, mut compared) = ([7; 8], BEFORE, BEFORE);
+    // SAFETY: each pointer and length are one array's, and no two of those overlap.
+    let numbers = unsafe {
+        let build = ffi::lca_build(
+            PARENTS.as_ptr(),
+            2,
+            label.as_mut_ptr(),
+            12,
+            tour.as_mut_ptr(),
+            11,
+            lift.as_mut_ptr(),
+            4,
+            work.as_mut_ptr(),
+            8,
+            &mut built,
+        );
+        let compare = ffi::lca_compare(
+            PARENTS.as_ptr(),
+            2,
+            label.as_ptr(),
+            12,
+            tour.as_ptr(),
+            11,
+            lift.as_ptr(),
+            4,
+            work.as_mut_ptr(),
+            8,
+            &mut compared,
+        );
+        [build, compare]
+    };
+    assert_eq!((numbers, built, compared), ([0, 0], 0, 0));
+    assert_eq!((label, tour, lift), (LABEL, TOUR, LIFT));
+}
+
+#[test]
+fn a_trail_s_value_is_its_count_of_lifts() {
+    for (question, result) in [
+        ([0, 0], (0, 0, 0)),
+        ([0, 1], (0, 1, 1)),
+        ([0, 2], (10, 9, 1)),
+    ] {
+        let (mut work, mut answer, mut rows, mut value) = ([7; 8], [9], [9; 64], BEFORE);
+        // SAFETY: each pointer and length are one array's, and no two of those overlap.
+        let number = unsafe {
+            ffi::lca_trail(
+                PARENTS.as_ptr(),
+                PARENTS.len(),
+                LABEL.as_ptr(),
+                LABEL.len(),
+                TOUR.as_ptr(),
+                TOUR.len(),
+                LIFT.as_ptr(),
+                LIFT.len(),
+                work.as_mut_ptr(),
+                work.len(),
+                question.as_ptr(),
+                question.len(),
+                answer.as_mut_ptr(),
+                answer.len(),
+                rows.as_mut_ptr(),
+                rows.len(),
+                &mut value,
+            )
+        };
+        assert_eq!((number, answer[0], value), result);
+    }
+}

@@ -1,0 +1,57 @@
+//! Carriers and trails, by climbing.
+
+use super::sheet::carriers;
+use super::tables::log;
+
+/// The carrier of two parts.
+pub fn carrier(parents: &[u16], x: u16, y: u16) -> u16 {
+    common_carrier(parents, &[x, y])
+}
+
+/// The carrier of a list: of the parts that carry every listed one, the one reached first in a climb.
+pub fn common_carrier(parents: &[u16], parts: &[u16]) -> u16 {
+    let mut carried = vec![0; parents.len()];
+    for &part in parts {
+        for above in carriers(parents, part) {
+            carried[above as usize] += 1;
+        }
+    }
+    let climb = carriers(parents, parts[0]);
+    let common = climb
+        .into_iter()
+        .find(|&c| carried[c as usize] == parts.len());
+    common.unwrap()
+}
+
+/// The rows of the lift route's trail.
+pub fn trail(parents: &[u16], x: u16, y: u16) -> Vec<(u16, u16)> {
+    let (mut x, mut y) = (x, y);
+    let mut rows = Vec::new();
+    let level = |v| carriers(parents, v).len() - 1;
+    for k in (0..=log(parents.len())).rev() {
+        if level(x) >= level(y) + (1 << k) {
+            x = up(parents, x, 1 << k);
+            rows.push((x, y));
+        } else if level(y) >= level(x) + (1 << k) {
+            y = up(parents, y, 1 << k);
+            rows.push((x, y));
+        }
+    }
+    if x == y {
+        return rows;
+    }
+    for k in (0..=log(parents.len())).rev() {
+        let (above_x, above_y) = (up(parents, x, 1 << k), up(parents, y, 1 << k));
+        if above_x != above_y {
+            (x, y) = (above_x, above_y);
+            rows.push((x, y));
+        }
+    }
+    rows.push((up(parents, x, 1), up(parents, y, 1)));
+    rows
+}
+
+/// The part so many steps up, staying at the root.
+fn up(parents: &[u16], part: u16, steps: usize) -> u16 {
+    (0..steps).fold(part, |here, _| parents[here as usize])
+}

@@ -1,0 +1,184 @@
+//! What each call gives, and what it leaves in every buffer.
+
+use super::answers::{carrier, common_carrier, trail};
+use super::sheet::{not_one_tree, Refused, MOST_PARTS};
+use super::tables::{Tables, NONE};
+
+#[derive(Clone, Copy, Debug, PartialEq, Eq, PartialOrd, Ord)]
+pub enum Call {
+    Check,
+    Build,
+    Compare,
+    PairsByLabels,
+    PairsByTour,
+    PairsByLifts,
+    List,
+    Trail,
+}
+
+impl Call {
+    pub const ALL: [Call; 8] = [
+        Call::Check,
+        Call::Build,
+        Call::Compare,
+        Call::PairsByLabels,
+        Call::PairsByTour,
+        Call::PairsByLifts,
+        Call::List,
+        Call::Trail,
+    ];
+
+    /// Whether the call is lent tables to read.
+    pub fn reads_tables(self) -> bool {
+        !matches!(self, Call::Check | Call::Build)
+    }
+
+    /// Whether the call is lent a question and an answer.
+    pub fn answers(self) -> bool {
+        self.reads_tables() && self != Call::Compare
+    }
+
+    pub fn is_of_pairs(self) -> bool {
+        self.answers() && self != Call::List && self != Call::Trail
+    }
+
+    /// Whether the call is lent the buffer of this number.
+    pub fn takes(self, buffer: usize) -> bool {
+        match buffer {
+            1..=3 => self != Call::Check,
+            4 => true,
+            5 | 6 => self.answers(),
+            _ => self == Call::Trail,
+        }
+    }
+}
+
+/// The numbers of the buffers.
+pub const BUFFERS: std::ops::RangeInclusive<usize> = 1..=7;
+
+/// All buffers; a call takes those that it has.
+#[derive(Clone, Default)]
+pub struct Lent {
+    pub parents: Vec<u16>,
+    pub label: Vec<u16>,
+    pub tour: Vec<u16>,
+    pub lift: Vec<u16>,
+    pub work: Vec<u16>,
+    pub question: Vec<u16>,
+    pub answer: Vec<u16>,
+    pub trail: Vec<u16>,
+}
+
+impl Lent {
+    /// The buffer of this number, 1 to 7.
+    pub fn buffer(&mut self, number: usize) -> &mut Vec<u16> {
+        match number {
+            1 => &mut self.label,
+            2 => &mut self.tour,
+            3 => &mut self.lift,
+            4 => &mut self.work,
+            5 => &mut self.question,
+            6 => &mut self.answer,
+            _ => &mut self.trail,
+        }
+    }
+
+    /// The lowest buffer of the call without its exact length.
+    fn misfit(&mut self, call: Call) -> Option<usize> {
+        let n = self.parents.len();
+        let [label, tour, lift] = Tables::lengths(n);
+        let asked = self.question.len();
+        let question = match call {
+            Call::List => asked,
+            Call::Trail => 2,
+            _ => asked / 2 * 2,
+        };
+        let answer = if call.is_of_pairs() { asked / 2 } else { 1 };
+        let exact = [label, tour, lift, 4 * n, question, answer, 64];
+        BUFFERS
+            .filter(|&b| call.takes(b))
+            .find(|&b| self.buffer(b).len() != exact[b - 1])
+    }
+}
+
+/// A sheet's verdict and tables, worked out once for many calls.
+pub struct Plain {
+    pub tree: Result<Tables, Refused>,
+}
+
+impl Plain {
+    pub fn new(parents: &[u16]) -> Plain {
+        let n = parents.len();
+        let refused = match n {
+            0 => Some((1, 0)),
+            _ if n > MOST_PARTS => Some((2, 0)),
+            _ => not_one_tree(parents),
+        };
+        Plain {
+            tree: refused.map_or_else(|| Ok(Tables::of(parents)), Err),
+        }
+    }
+
+    /// The call on this sheet: its lift count or 0, or its refusal. `lent` becomes what the call leaves.
+    pub fn call(&self, call: Call, lent: &mut Lent) -> Result<u64, Refused> {
+        if let Err((1 | 2, 0)) = self.tree {
+            return Err(self.tree.as_ref().err().copied().unwrap());
+        }
+        if let Some(buffer) = lent.misfit(call) {
+            return Err((3, buffer as u64));
+        }
+        lent.work.fill(0);
+        let own = self.tree.as_ref().map_err(|&refused| refused)?;
+        if call == Call::Build {
+            lent.label.clone_from(&own.label);
+            lent.tour.clone_from(&own.tour);
+            lent.lift.clone_from(&own.lift);
+        }
+        if call.reads_tables() {
+            stale(own, lent).map_or(Ok(()), Err)?;
+        }
+        if call.answers() {
+            unanswerable(lent).map_or(Ok(()), Err)?;
+            return Ok(answer(call, lent));
+        }
+        Ok(0)
+    }
+}
+
+/// Test 8.
+fn stale(own: &Tables, lent: &Lent) -> Option<Refused> {
+    let own = own.label.iter().chain(&own.tour).chain(&own.lift);
+    let lent = lent.label.iter().chain(&lent.tour).chain(&lent.lift);
+    let place = own.zip(lent).position(|(own, lent)| own != lent)?;
+    Some((8, place as u64))
+}
+
+/// Tests 9 and 10. No sheet that passes the tests before fails test 11.
+fn unanswerable(lent: &Lent) -> Option<Refused> {
+    if lent.question.is_empty() {
+        return Some((9, 0));
+    }
+    let n = lent.parents.len();
+    let place = lent.question.iter().position(|&part| part as usize >= n)?;
+    Some((10, place as u64))
+}
+
+fn answer(call: Call, lent: &mut Lent) -> u64 {
+    let parents = &lent.parents;
+    if call == Call::List {
+        lent.answer[0] = common_carrier(parents, &lent.question);
+        return 0;
+    }
+    for (pair, cell) in lent.question.chunks(2).zip(&mut lent.answer) {
+        *cell = carrier(parents, pair[0], pair[1]);
+    }
+    if call != Call::Trail {
+        return 0;
+    }
+    let rows = trail(parents, lent.question[0], lent.question[1]);
+    lent.trail.fill(NONE);
+    for (&(x, y), cells) in rows.iter().zip(lent.trail.chunks_mut(2)) {
+        cells.copy_from_slice(&[x, y]);
+    }
+    rows.len() as u64
+}

@@ -1,0 +1,80 @@
+//! What can be wrong with the buffers of a call.
+
+use super::Rng;
+use crate::model::{log, Call, Lent};
+
+#[derive(Clone, Copy, Debug)]
+pub enum Length {
+    OneShort,
+    OneLong,
+    Empty,
+}
+
+impl Length {
+    pub const ALL: [Length; 3] = [Length::OneShort, Length::OneLong, Length::Empty];
+}
+
+/// Gives the buffer of this number another length.
+pub fn alter_length(lent: &mut Lent, buffer: usize, length: Length) {
+    let cells = lent.buffer(buffer);
+    match length {
+        Length::OneShort => {
+            cells.pop();
+        }
+        Length::OneLong => cells.push(0),
+        Length::Empty => cells.clear(),
+    }
+}
+
+/// Changes one cell of a buffer to any other number.
+pub fn change(lent: &mut Lent, buffer: usize, cell: usize, rng: &mut Rng) {
+    lent.buffer(buffer)[cell] ^= 1 + rng.below(65_535) as u16;
+}
+
+/// Changes one cell of a table, if the table has any: the first or last of a section as often as any other.
+pub fn alter_cell(lent: &mut Lent, rng: &mut Rng) {
+    let edge = rng.pick(&edges(lent.parents.len().max(1)));
+    let buffer = 1 + rng.below(3);
+    let anywhere = (buffer, rng.below(lent.buffer(buffer).len().max(1)));
+    let (buffer, cell) = rng.pick(&[edge, anywhere]);
+    if cell < lent.buffer(buffer).len() {
+        change(lent, buffer, cell, rng);
+    }
+}
+
+/// The first and the last cell of each section of the tables for n parts, as buffer and cell: of each column of labels, of the visits,
+/// of the first positions, and of each row.
+pub fn edges(n: usize) -> Vec<(usize, usize)> {
+    let visits = 2 * n - 1;
+    let mut tour = vec![visits, n];
+    tour.resize(2 + log(visits) + 1, visits);
+    let sections = [vec![n; 6], tour, vec![n; log(n) + 1]];
+    let mut edges = Vec::new();
+    for (buffer, sections) in (1..).zip(sections) {
+        let mut first = 0;
+        for cells in sections {
+            edges.push((buffer, first));
+            edges.push((buffer, first + cells - 1));
+            first += cells;
+        }
+    }
+    edges
+}
+
+/// Puts a number that is no part at a random position of the question, if it has any.
+pub fn name_no_part(lent: &mut Lent, rng: &mut Rng) {
+    let n = lent.parents.len().min(65_535);
+    let beyond = n + rng.below(65_536 - n);
+    if !lent.question.is_empty() {
+        let position = rng.below(lent.question.len());
+        lent.question[position] = rng.pick(&[n, 65_535, beyond]) as u16;
+    }
+}
+
+/// Asks for nothing, with an answer buffer to fit.
+pub fn empty_question(lent: &mut Lent, call: Call) {
+    lent.question.clear();
+    if call.is_of_pairs() {
+        lent.answer.clear();
+    }
+}

@@ -1,0 +1,178 @@
+//! `Tree` compared with the plain model.
+
+use std::thread;
+
+use lca::{Refusal, Route, Trail, Tree};
+
+use crate::model::{carrier, common_carrier, trail, Call, Refused, Tables, MOST_PARTS};
+use crate::support::{alter_cell, alter_length, sound_cases, Case, Damage, Length, Rng, Shape};
+
+const ROUTES: [Route; 3] = [Route::Labels, Route::Tour, Route::Lifts];
+
+fn refused<T: std::fmt::Debug>(result: Result<T, Refusal>) -> Refused {
+    let refusal = result.unwrap_err();
+    (refusal.number, refusal.place)
+}
+
+fn some_pairs(rng: &mut Rng, n: usize) -> Vec<(u16, u16)> {
+    let mut part = || rng.below(n) as u16;
+    (0..20).map(|_| (part(), part())).collect()
+}
+
+#[test]
+fn a_tree_has_the_sheet_s_own_tables() {
+    for case in sound_cases(120, 1, 200) {
+        let tree = Tree::new(&case.parents).unwrap();
+        let own = case.plain.tree.as_ref().ok().unwrap();
+        assert_eq!(tree.parents(), case.parents, "{}", case.note);
+        assert_eq!(tree.label(), own.label, "{}", case.note);
+        assert_eq!(tree.tour(), own.tour, "{}", case.note);
+        assert_eq!(tree.lift(), own.lift, "{}", case.note);
+        assert_eq!((tree.len(), tree.is_empty()), (case.n(), false));
+        assert_eq!(Tree::check(&case.parents), Ok(()), "{}", case.note);
+        assert_eq!(Tree::try_from(&case.parents[..]), Ok(tree.clone()));
+        let kept = Tree::from_tables(&case.parents, &own.label, &own.tour, &own.lift);
+        assert_eq!(kept, Ok(tree), "{}", case.note);
+    }
+}
+
+#[test]
+fn a_tree_s_answers_are_the_plain_model_s() {
+    for mut case in sound_cases(200, 1, 120) {
+        let tree = Tree::new(&case.parents).unwrap();
+        let pairs = some_pairs(&mut case.rng, case.parents.len());
+        let parents = &case.parents;
+        let carriers: Vec<u16> = pairs.iter().map(|&(x, y)| carrier(parents, x, y)).collect();
+        for route in ROUTES {
+            assert_eq!(
+                tree.pairs(route, &pairs).as_ref(),
+                Ok(&carriers),
+                "{}",
+                case.note
+            );
+        }
+        assert_eq!(tree.pairs_by_labels(&pairs).as_ref(), Ok(&carriers));
+        assert_eq!(tree.pairs_by_tour(&pairs).as_ref(), Ok(&carriers));
+        assert_eq!(tree.pairs_by_lifts(&pairs).as_ref(), Ok(&carriers));
+        for (&(x, y), &carrier) in pairs.iter().zip(&carriers) {
+            let rows = trail(parents, x, y);
+            assert_eq!(tree.carrier(x, y), Ok(carrier), "{}", case.note);
+            assert_eq!(tree.trail(x, y).unwrap().lifts(), rows.len());
+            assert_eq!(
+                tree.trail(x, y),
+                Ok(Trail { carrier, rows }),
+                "{}",
+                case.note
+            );
+        }
+        let parts: Vec<u16> = pairs.iter().map(|&(x, _)| x).collect();
+        let parts = &parts[..1 + case.rng.below(parts.len())];
+        assert_eq!(
+            tree.list(parts),
+            Ok(common_carrier(parents, parts)),
+            "{}",
+            case.note
+        );
+    }
+}
+
+#[test]
+fn a_tree_refuses_questions() {
+    for mut case in sound_cases(60, 1, 60) {
+        let n = case.n();
+        let tree = Tree::new(&case.parents).unwrap();
+        let mut pairs = some_pairs(&mut case.rng, n);
+        let at = case.rng.below(pairs.len());
+        pairs[at].1 = n as u16;
+        for route in ROUTES {
+            let place = 2 * at as u64 + 1;
+            assert_eq!(
+                refused(tree.pairs(route, &pairs)),
+                (10, place),
+                "{}",
+                case.note
+            );
+            assert_eq!(refused(tree.pairs(route, &[])), (9, 0), "{}", case.note);
+        }
+        let parts: Vec<u16> = pairs.iter().map(|&(_, y)| y).collect();
+        assert_eq!(refused(tree.list(&parts)), (10, at as u64), "{}", case.note);
+        assert_eq!(refused(tree.list(&[])), (9, 0), "{}", case.note);
+        assert_eq!(refused(tree.carrier(n as u16, 0)), (10, 0), "{}", case.note);
+        assert_eq!(refused(tree.trail(0, 65_535)), (10, 1), "{}", case.note);
+    }
+}
+
+#[test]
+fn no_tree_is_made_of_a_damaged_sheet() {
+    for seed in 0..300 {
+        let mut rng = Rng::new(!seed);
+        let n = 2 + rng.below(40);
+        let case = Case::damaged(seed, rng.pick(&Shape::ALL), n, rng.pick(&Damage::ALL));
+        let [label, tour, lift] = Tables::lengths(n).map(|cells| vec![0; cells]);
+        let Err(why) = case.plain.tree else {
+            assert!(Tree::new(&case.parents).is_ok(), "{}", case.note);
+            continue;
+        };
+        assert_eq!(refused(Tree::new(&case.parents)), why, "{}", case.note);
+        assert_eq!(refused(Tree::check(&case.parents)), why, "{}", case.note);
+        assert_eq!(
+            refused(Tree::try_from(&case.parents[..])),
+            why,
+            "{}",
+            case.note
+        );
+        let kept = Tree::from_tables(&case.parents, &label, &tour, &lift);
+        assert_eq!(refused(kept), why, "{}", case.note);
+    }
+}
+
+#[test]
+fn no_tree_is_made_of_tables_that_are_not_the_sheet_s() {
+    for mut case in sound_cases(300, 1, 60) {
+        let mut lent = case.lent(Call::Compare);
+        if case.rng.once_in(4) {
+            let length = case.rng.pick(&Length::ALL);
+            alter_length(&mut lent, 1 + case.rng.below(3), length);
+        } else {
+            alter_cell(&mut lent, &mut case.rng);
+        }
+        let kept = Tree::from_tables(&lent.parents, &lent.label, &lent.tour, &lent.lift);
+        let why = case.plain.call(Call::Compare, &mut lent).unwrap_err();
+        assert_eq!(refused(kept), why, "{}", case.note);
+    }
+}
+
+#[test]
+fn no_tree_is_made_of_a_bare_or_oversize_sheet() {
+    for (n, why) in [(0, (1, 0)), (MOST_PARTS + 1, (2, 0)), (1_000_000, (2, 0))] {
+        let parents = vec![0; n];
+        assert_eq!(refused(Tree::new(&parents)), why);
+        assert_eq!(refused(Tree::check(&parents)), why);
+        assert_eq!(refused(Tree::from_tables(&parents, &[], &[], &[])), why);
+        assert_eq!(
+            refused(Tree::from_tables(&parents, &parents, &[1], &[])),
+            why
+        );
+    }
+}
+
+#[test]
+fn threads_share_a_tree() {
+    let mut case = Case::sound(7, Shape::Random, 500);
+    let tree = Tree::new(&case.parents).unwrap();
+    let pairs = some_pairs(&mut case.rng, 500);
+    let carriers: Vec<u16> = pairs
+        .iter()
+        .map(|&(x, y)| carrier(&case.parents, x, y))
+        .collect();
+    thread::scope(|scope| {
+        for route in ROUTES {
+            let (tree, pairs, carriers) = (&tree, &pairs, &carriers);
+            scope.spawn(move || {
+                for _ in 0..20 {
+                    assert_eq!(tree.pairs(route, pairs).as_ref(), Ok(carriers));
+                }
+            });
+        }
+    });
+}

@@ -1,0 +1,237 @@
+/*
+ * Common carriers on a parts sheet.
+ *
+ * A sheet is an array of n entries: entry v is the part into which part v is bolted. Parts are numbered from 0, and the root names
+ * itself. A part carries itself and all that is bolted into what it carries. The carrier of two parts, or of a list, is their common
+ * carrier that all their other common carriers carry.
+ *
+ * Link with target/staticlib/liblca.a, which `rt staticlib lca` makes.
+ *
+ *
+ * Buffers
+ *
+ * Each buffer is a pointer and a length, in cells of uint16_t. Lengths are exact; for n parts, 1 to LCA_MOST_PARTS, they are:
+ *
+ *   buffer    cells                      what it holds
+ *   parents   n                          the sheet
+ *   label     lca_label_cells(n)         PREORDER, SIZE, LEVEL, INLABEL, ASCENDANT and HEAD, n cells each
+ *   tour      lca_tour_cells(n)          the 2n - 1 visits, each part's first position, and the rows of least levels
+ *   lift      lca_lift_cells(n)          row k: each part's carrier 2^k steps up
+ *   work      lca_work_cells(n)          the call's own room: what it holds before makes no difference
+ *   question  2 for each pair            the pairs, one after another: x, y, x, y, ..
+ *             2 for a trail              x, y
+ *             any for a list             the listed parts
+ *   answer    1 for each pair            the carriers, in the pairs' order
+ *             1 for a list or a trail    the carrier
+ *   trail     LCA_TRAIL_CELLS            two cells for each lift, x's side and then y's; LCA_NO_CELL after the last
+ *
+ * Any other length is refused, and so is any content that a call cannot answer. The caller owes only this:
+ *
+ *   - No pointer is null, even for length 0. Each is aligned for its type, and points to as many cells as its length says.
+ *   - A buffer that a call writes overlaps no other buffer, and `value` overlaps none. Buffers that are const in a call may overlap one
+ *     another.
+ *
+ * Calls keep nothing between them and may run at the same time, on buffers of their own. Const buffers may be shared.
+ *
+ *
+ * Results
+ *
+ * A call returns LCA_ACCEPTED, or the number of its refusal. It always sets *value: to the refusal's place, to an accepted trail's count
+ * of lifts, or to 0.
+ *
+ * An accepted call fills every cell of what it was lent to fill. A refused one changes no table, answer or trail. `work` is all zero
+ * afterwards, but unchanged after refusals 1 to 3.
+ */
+
+#ifndef LCA_H
+#define LCA_H
+
+#include <stddef.h>
+#include <stdint.h>
+
+#ifdef __cplusplus
+extern "C" {
+#endif
+
+/*
+ * The card of numbers. Tests run in this order, as far as the call has such input, and the first that fails gives the number. What the
+ * place is stands beside each.
+ */
+enum lca_number {
+    LCA_ACCEPTED = 0,
+    LCA_BARE = 1,           /* the sheet has no part; 0 */
+    LCA_OVERSIZE = 2,       /* the sheet has more than LCA_MOST_PARTS parts; 0 */
+    LCA_MISFIT = 3,         /* a buffer hasn't its exact length; the lowest such buffer of 1 label, 2 tour, 3 lift, 4 work, 5 question,
+                               6 answer, 7 trail */
+    LCA_OFF_SHEET = 4,      /* an entry is n or more; the lowest part with such an entry */
+    LCA_ROOTLESS = 5,       /* no part names itself; 0 */
+    LCA_SECOND_ROOT = 6,    /* two or more parts name themselves; the second lowest of them */
+    LCA_LOOP = 7,           /* a part's climb never meets the root; the lowest such part */
+    LCA_STALE = 8,          /* a table's cell isn't this sheet's; the first such cell from 0, label, tour and lift end to end */
+    LCA_NOTHING_LISTED = 9, /* the question is empty; 0 */
+    LCA_NO_SUCH_PART = 10,  /* a number in the question is n or more; its first position in the question, from 0 */
+    LCA_ADRIFT = 11,        /* the parts asked for have no common carrier; 0. No sheet that passes the tests before has such parts */
+    LCA_ILLEGIBLE = 12      /* the program `report` alone gives this one: a line breaks its forms; the line's number from 1 */
+};
+
+enum {
+    LCA_MOST_PARTS = 16384, /* the most parts that a sheet can have */
+    LCA_TRAIL_CELLS = 64,   /* the cells of a trail buffer: 32 rows of two */
+    LCA_NO_CELL = 65535     /* what a cell holds that stands for nothing */
+};
+
+/*
+ * The lengths of the buffers for n parts. There are no tables for 0 parts, nor for more than LCA_MOST_PARTS: each function then gives 0.
+ */
+
+static inline int lca_has_tables(size_t n)
+{
+    return n != 0 && n <= LCA_MOST_PARTS;
+}
+
+/* The logarithm of m to base 2, rounded down; 0 for m = 0. */
+static inline size_t lca_log(size_t m)
+{
+    size_t log = 0;
+    while (m > 1) {
+        m /= 2;
+        log++;
+    }
+    return log;
+}
+
+/* 6n */
+static inline size_t lca_label_cells(size_t n)
+{
+    return lca_has_tables(n) ? 6 * n : 0;
+}
+
+/* (2n - 1)(t + 2) + n, where t = log(2n - 1) */
+static inline size_t lca_tour_cells(size_t n)
+{
+    return lca_has_tables(n) ? (2 * n - 1) * (lca_log(2 * n - 1) + 2) + n : 0;
+}
+
+/* n(l + 1), where l = log n */
+static inline size_t lca_lift_cells(size_t n)
+{
+    return lca_has_tables(n) ? n * (lca_log(n) + 1) : 0;
+}
+
+/* 4n */
+static inline size_t lca_work_cells(size_t n)
+{
+    return lca_has_tables(n) ? 4 * n : 0;
+}
+
+/* The operator's word for a number: "accepted" for 0, "unknown" for one off the card. */
+static inline const char *lca_word(uint32_t number)
+{
+    switch (number) {
+    case LCA_ACCEPTED: return "accepted";
+    case LCA_BARE: return "bare";
+    case LCA_OVERSIZE: return "oversize";
+    case LCA_MISFIT: return "misfit";
+    case LCA_OFF_SHEET: return "off sheet";
+    case LCA_ROOTLESS: return "rootless";
+    case LCA_SECOND_ROOT: return "second root";
+    case LCA_LOOP: return "loop";
+    case LCA_STALE: return "stale";
+    case LCA_NOTHING_LISTED: return "nothing listed";
+    case LCA_NO_SUCH_PART: return "no such part";
+    case LCA_ADRIFT: return "adrift";
+    case LCA_ILLEGIBLE: return "illegible";
+    default: return "unknown";
+    }
+}
+
+/* Accepts a sheet that is one rooted tree. Tests 1 to 7. Writes: work. */
+uint32_t lca_check(
+    const uint16_t *parents, size_t parents_len,
+    uint16_t *work, size_t work_len,
+    uint64_t *value);
+
+/* Fills the three tables with the sheet's own cells. Tests 1 to 7. Writes: label, tour, lift, work. */
+uint32_t lca_build(
+    const uint16_t *parents, size_t parents_len,
+    uint16_t *label, size_t label_len,
+    uint16_t *tour, size_t tour_len,
+    uint16_t *lift, size_t lift_len,
+    uint16_t *work, size_t work_len,
+    uint64_t *value);
+
+/* Accepts tables that are the sheet's own in every cell. Tests 1 to 8. Writes: work. */
+uint32_t lca_compare(
+    const uint16_t *parents, size_t parents_len,
+    const uint16_t *label, size_t label_len,
+    const uint16_t *tour, size_t tour_len,
+    const uint16_t *lift, size_t lift_len,
+    uint16_t *work, size_t work_len,
+    uint64_t *value);
+
+/*
+ * The calls that answer. Tests 1 to 11. Each compares the tables with the sheet once, whatever the number of its questions: ask many
+ * pairs in one call. Writes: work, answer.
+ */
+
+/* The carrier of each pair, by labels. The three routes give the same answers. */
+uint32_t lca_pairs_by_labels(
+    const uint16_t *parents, size_t parents_len,
+    const uint16_t *label, size_t label_len,
+    const uint16_t *tour, size_t tour_len,
+    const uint16_t *lift, size_t lift_len,
+    uint16_t *work, size_t work_len,
+    const uint16_t *question, size_t question_len,
+    uint16_t *answer, size_t answer_len,
+    uint64_t *value);
+
+/* The carrier of each pair, by the tour. */
+uint32_t lca_pairs_by_tour(
+    const uint16_t *parents, size_t parents_len,
+    const uint16_t *label, size_t label_len,
+    const uint16_t *tour, size_t tour_len,
+    const uint16_t *lift, size_t lift_len,
+    uint16_t *work, size_t work_len,
+    const uint16_t *question, size_t question_len,
+    uint16_t *answer, size_t answer_len,
+    uint64_t *value);
+
+/* The carrier of each pair, by lifts. */
+uint32_t lca_pairs_by_lifts(
+    const uint16_t *parents, size_t parents_len,
+    const uint16_t *label, size_t label_len,
+    const uint16_t *tour, size_t tour_len,
+    const uint16_t *lift, size_t lift_len,
+    uint16_t *work, size_t work_len,
+    const uint16_t *question, size_t question_len,
+    uint16_t *answer, size_t answer_len,
+    uint64_t *value);
+
+/* The carrier of all the listed parts. */
+uint32_t lca_list(
+    const uint16_t *parents, size_t parents_len,
+    const uint16_t *label, size_t label_len,
+    const uint16_t *tour, size_t tour_len,
+    const uint16_t *lift, size_t lift_len,
+    uint16_t *work, size_t work_len,
+    const uint16_t *question, size_t question_len,
+    uint16_t *answer, size_t answer_len,
+    uint64_t *value);
+
+/* The carrier of one pair, its trail, and in *value the count of its lifts. Writes trail too. */
+uint32_t lca_trail(
+    const uint16_t *parents, size_t parents_len,
+    const uint16_t *label, size_t label_len,
+    const uint16_t *tour, size_t tour_len,
+    const uint16_t *lift, size_t lift_len,
+    uint16_t *work, size_t work_len,
+    const uint16_t *question, size_t question_len,
+    uint16_t *answer, size_t answer_len,
+    uint16_t *trail, size_t trail_len,
+    uint64_t *value);
+
+#ifdef __cplusplus
+}
+#endif
+
+#endif
