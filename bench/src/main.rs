@@ -1,0 +1,82 @@
+//! Measures the proved library against an independent Rust version of the same calls. README.md says what and how.
+#![forbid(unsafe_code)]
+
+mod buffers;
+mod candidates;
+mod chart;
+mod climb;
+mod fast;
+mod figures;
+mod machine;
+mod measure;
+mod report;
+mod selfcheck;
+mod sheets;
+
+use std::process::ExitCode;
+use std::time::Duration;
+
+use measure::Budget;
+use sheets::{SHAPES, SIZES};
+
+const USAGE: &str = "usage: lca-bench [--quick] [--svg FILE]";
+
+struct Options {
+    quick: bool,
+    svg: Option<String>,
+}
+
+fn options() -> Result<Options, String> {
+    let mut options = Options {
+        quick: false,
+        svg: None,
+    };
+    let mut words = std::env::args().skip(1);
+    while let Some(word) = words.next() {
+        match word.as_str() {
+            "--quick" => options.quick = true,
+            "--svg" => options.svg = Some(words.next().ok_or(USAGE)?),
+            _ => return Err(USAGE.into()),
+        }
+    }
+    Ok(options)
+}
+
+fn budget(quick: bool) -> Budget {
+    let each = Duration::from_millis(if quick { 12 } else { 350 });
+    Budget {
+        each,
+        most_rounds: 2_001,
+    }
+}
+
+fn run() -> Result<(), String> {
+    let options = options()?;
+    selfcheck::small(if options.quick { 50 } else { 300 })?;
+    let mut sheets = Vec::new();
+    for n in SIZES {
+        for shape in SHAPES {
+            selfcheck::measured(&format!("{} of {n}", shape.name()), &shape.sheet(n))?;
+            sheets.push(figures::sheet(budget(options.quick), n, shape));
+        }
+    }
+    let machine = machine::line();
+    println!("{machine}\n\n{}", report::LEGEND);
+    println!("{}", report::times(&sheets));
+    print!("{}", report::growth(&sheets));
+    match options.svg {
+        Some(file) => std::fs::write(&file, chart::svg(&sheets, &machine))
+            .map_err(|why| format!("{file}: {why}")),
+        None => Ok(()),
+    }
+}
+
+fn main() -> ExitCode {
+    match run() {
+        Ok(()) => ExitCode::SUCCESS,
+        Err(what) => {
+            eprintln!("{what}");
+            ExitCode::FAILURE
+        }
+    }
+}

@@ -1,0 +1,235 @@
+//! Before anything is measured: both implementations give the same results and leave the same buffers, on accepted and refused input, and
+//! the answers are the plain climber's.
+
+use crate::buffers::Buffers;
+use crate::candidates::{Ask, Calls, Outcome, PROVED, ROUTES, RUST};
+use crate::climb;
+use crate::sheets::{parts, random, Draw};
+
+type Checked<T = ()> = Result<T, String>;
+
+/// One call of each implementation on copies of the same state; both results and both states must agree.
+fn same<S: Clone + PartialEq>(
+    what: &str,
+    state: &S,
+    call: impl Fn(&Calls, &mut S) -> Outcome,
+) -> Checked<(Outcome, S)> {
+    let [(proved, left), (rust, right)] = [&PROVED, &RUST].map(|calls| {
+        let mut state = state.clone();
+        (call(calls, &mut state), state)
+    });
+    if proved != rust {
+        Err(format!("{what}: proved {proved:?}, Rust {rust:?}"))
+    } else if left != right {
+        Err(format!("{what}: the buffers differ afterwards"))
+    } else {
+        Ok((proved, left))
+    }
+}
+
+fn expect<T: PartialEq + std::fmt::Debug>(what: &str, got: T, wanted: T) -> Checked {
+    if got == wanted {
+        Ok(())
+    } else {
+        Err(format!("{what}: both give {got:?} and not {wanted:?}"))
+    }
+}
+
+/// Check, build and compare, with other numbers in work and tables before. Gives the tables of a sheet that is accepted.
+fn tables(what: &str, parents: &[u16], draw: &mut Draw) -> Checked<Option<Buffers>> {
+    let mut before = Buffers::new(parents.to_vec());
+    for buffer in before.lent() {
+        buffer.fill_with(|| draw.below(65_536) as u16);
+    }
+    let (checked, _) = same(&format!("{what}, check"), &before, |calls, b| {
+        (calls.check)(&b.parents, &mut b.work)
+    })?;
+    let (built, own) = same(&format!("{what}, build"), &before, |calls, b| {
+        let tables = (&mut b.label, &mut b.tour, &mut b.lift);
+        (calls.build)(&b.parents, tables.0, tables.1, tables.2, &mut b.work)
+    })?;
+    expect(&format!("{what}, build"), built, checked)?;
+    let compared = compare(what, &before)?;
+    if built.is_err() {
+        expect(&format!("{what}, compare"), compared, built)?;
+        return Ok(None);
+    }
+    expect(
+        &format!("{what}, its own tables"),
+        compare(what, &own)?,
+        Ok(0),
+    )?;
+    Ok(Some(own))
+}
+
+fn compare(what: &str, buffers: &Buffers) -> Checked<Outcome> {
+    let call = |calls: &Calls, b: &mut Buffers| {
+        (calls.compare)(&b.parents, &b.label, &b.tour, &b.lift, &mut b.work)
+    };
+    Ok(same(&format!("{what}, compare"), buffers, call)?.0)
+}
+
+/// Tables with one other cell are refused at that cell.
+fn damaged(what: &str, own: &Buffers, times: usize, draw: &mut Draw) -> Checked {
+    for time in 0..times {
+        let mut bad = own.clone();
+        let before: usize = own.tables()[..time % 3]
+            .iter()
+            .map(|table| table.len())
+            .sum();
+        let table = bad.lent().into_iter().nth(time % 3);
+        let table = table.expect("there are three");
+        let at = draw.below(table.len());
+        let right = table[at];
+        let others = [right.wrapping_add(1), 0, 65_535, draw.below(65_536) as u16];
+        table[at] = others[draw.below(4)];
+        let changed = table[at] != right;
+        let wanted = if changed {
+            Err((8, (before + at) as u64))
+        } else {
+            Ok(0)
+        };
+        let what = format!("{what}, cell {at} of table {} changed", time % 3 + 1);
+        expect(&what, compare(&what, &bad)?, wanted)?;
+    }
+    Ok(())
+}
+
+/// Buffers that are a cell too long or too short.
+fn misfits(what: &str, own: &Buffers) -> Checked {
+    for buffer in 0..4 {
+        for longer in [false, true] {
+            let mut bad = own.clone();
+            let cells = bad.lent().into_iter().nth(buffer).expect("there are four");
+            cells.resize(cells.len() + 2 * longer as usize - 1, 7);
+            let what = format!("{what}, buffer {} misfits", buffer + 1);
+            expect(&what, compare(&what, &bad)?, Err((3, buffer as u64 + 1)))?;
+        }
+    }
+    Ok(())
+}
+
+/// One question by one call, with an answer of so many cells.
+fn ask(
+    what: &str,
+    own: &Buffers,
+    question: &[u16],
+    cells: usize,
+    call: fn(&Calls) -> Ask,
+) -> Checked<(Outcome, Vec<u16>)> {
+    let state = (own.clone(), vec![7; cells]);
+    let (outcome, (_, answer)) = same(what, &state, |calls, (b, answer)| {
+        let (label, tour, lift) = (&b.label, &b.tour, &b.lift);
+        call(calls)(&b.parents, label, tour, lift, &mut b.work, question, answer)
+    })?;
+    Ok((outcome, answer))
+}
+
+const BY_ROUTE: [fn(&Calls) -> Ask; 3] = [|c| c.pairs[0], |c| c.pairs[1], |c| c.pairs[2]];
+
+/// Pairs by every route, a list and trails, against the climber.
+fn answers(what: &str, own: &Buffers, question: &[u16]) -> Checked {
+    let climbed = climb::pairs(&own.parents, question);
+    for (route, call) in BY_ROUTE.into_iter().enumerate() {
+        let what = format!("{what}, pairs by {}", ROUTES[route]);
+        let (outcome, answer) = ask(&what, own, question, climbed.len(), call)?;
+        expect(&what, (outcome, &answer), (Ok(0), &climbed))?;
+    }
+    let (outcome, answer) = ask(&format!("{what}, list"), own, question, 1, |c| c.list)?;
+    let carrier = climb::list(&own.parents, question);
+    expect(
+        &format!("{what}, list"),
+        (outcome, answer.first().copied()),
+        (Ok(0), carrier),
+    )?;
+    for (pair, &carrier) in question.chunks_exact(2).zip(&climbed).take(20) {
+        trail(&format!("{what}, trail of {pair:?}"), own, pair, carrier)?;
+    }
+    Ok(())
+}
+
+fn trail(what: &str, own: &Buffers, pair: &[u16], carrier: u16) -> Checked {
+    let state = (own.clone(), vec![7; 1], vec![7; lca::cells::TRAIL]);
+    let (outcome, (_, answer, rows)) = same(what, &state, |calls, (b, answer, rows)| {
+        let (label, tour, lift) = (&b.label, &b.tour, &b.lift);
+        (calls.trail)(
+            &b.parents,
+            label,
+            tour,
+            lift,
+            &mut b.work,
+            pair,
+            answer,
+            rows,
+        )
+    })?;
+    let lifts = rows
+        .chunks_exact(2)
+        .filter(|row| row[0] != lca::cells::NO_CELL)
+        .count();
+    expect(what, (outcome, answer), (Ok(lifts as u64), vec![carrier]))
+}
+
+/// Questions of none, of an odd count, with an answer that misfits and with a number that is no part.
+fn refused_questions(what: &str, own: &Buffers, draw: &mut Draw) -> Checked {
+    let n = own.parents.len();
+    let question = parts(10, n, draw);
+    let at = draw.below(10);
+    let mut off = question.clone();
+    off[at] = n as u16;
+    for call in BY_ROUTE {
+        expect(what, ask(what, own, &[], 0, call)?.0, Err((9, 0)))?;
+        expect(
+            what,
+            ask(what, own, &question[..5], 2, call)?.0,
+            Err((3, 5)),
+        )?;
+        expect(what, ask(what, own, &question, 4, call)?.0, Err((3, 6)))?;
+        expect(what, ask(what, own, &off, 5, call)?.0, Err((10, at as u64)))?;
+    }
+    expect(what, ask(what, own, &[], 1, |c| c.list)?.0, Err((9, 0)))?;
+    expect(
+        what,
+        ask(what, own, &question, 2, |c| c.list)?.0,
+        Err((3, 6)),
+    )?;
+    expect(
+        what,
+        ask(what, own, &off, 1, |c| c.list)?.0,
+        Err((10, at as u64)),
+    )
+}
+
+/// Everything on one sheet.
+fn sheet(what: &str, parents: &[u16], draw: &mut Draw) -> Checked {
+    let Some(own) = tables(what, parents, draw)? else {
+        return Ok(());
+    };
+    answers(what, &own, &parts(200, parents.len(), draw))?;
+    refused_questions(what, &own, draw)?;
+    misfits(what, &own)?;
+    damaged(what, &own, 30, draw)
+}
+
+/// Small random sheets, right ones and ones with other entries, and sheets of none and of too many.
+pub fn small(count: usize) -> Checked {
+    let mut draw = Draw::new(7);
+    for time in 0..count {
+        let n = 1 + draw.below(40);
+        let mut parents = random(n, &mut draw);
+        sheet(&format!("small sheet {time}"), &parents, &mut draw)?;
+        for _ in 0..1 + draw.below(3) {
+            parents[draw.below(n)] = draw.below(n + 1) as u16;
+        }
+        sheet(&format!("changed sheet {time}"), &parents, &mut draw)?;
+    }
+    for n in [0, lca::cells::MOST_PARTS + 1] {
+        sheet(&format!("{n} entries"), &vec![0; n], &mut draw)?;
+    }
+    Ok(())
+}
+
+/// A sheet that is then measured.
+pub fn measured(what: &str, parents: &[u16]) -> Checked {
+    sheet(what, parents, &mut Draw::new(11))
+}
