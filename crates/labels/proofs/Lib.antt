@@ -4,6 +4,8 @@ pub mod Linking
 pub mod Walking
 -- the sums that tell PREORDER and SIZE
 pub mod Summing
+-- the steps that tell LEVEL and ASCENDANT
+pub mod Stepping
 -- the columns made from those before them
 pub mod Labelled
 pub mod Filling

@@ -1,3 +1,4 @@
 pub mod Heads
 pub mod Walk
 pub mod Sums
+pub mod Steps

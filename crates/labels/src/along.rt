@@ -59,7 +59,14 @@ fn ascend(above: u16, inlabel: u16, upper: u16) -> u16
     requires { ⌜ above + lowestOne inlabel ≤ 65535 ⌝ }
     ensures { λ r. ⌜ r ≡ cond (eqb inlabel upper) above (above + lowestOne inlabel) ⌝ }
 {
-    above + bits::lowest_one(inlabel) * differ(inlabel, upper)
+    above + added(inlabel, upper)
+}
+
+// The bit that a node adds to its parent's ASCENDANT: the lowest one of its INLABEL, or none where that is its parent's.
+pub(crate) fn added(inlabel: u16, upper: u16) -> u16
+    ensures { λ r. ⌜ r ≡ cond (eqb inlabel upper) 0 (lowestOne inlabel) ⌝ }
+{
+    bits::lowest_one(inlabel) * differ(inlabel, upper)
 }
 
 // 1 where a and b differ, 0 where they are equal: by a shift, since a branch on it would be guessed wrong at many nodes.

@@ -3,6 +3,7 @@
 
 mod along;
 mod links;
+mod steps;
 mod sums;
 
 ghost use mathlib.Core.Path.{_≡_};
@@ -15,6 +16,7 @@ ghost use Rattle.tree.specs.Buffers.{labelCells};
 ghost use Rattle.tree.specs.Labels.{labelTable, topmost};
 ghost use Rattle.tree.specs.Sections.{Same};
 ghost use Rattle.tree.specs.Ready.{Ready, Columns, ColumnIn};
+ghost use Rattle.cells.specs.Cells.{Agree};
 ghost use Rattle.labels.specs.Heads.{placeOf};
 
 // No cell.
@@ -52,6 +54,40 @@ pub fn column(k: usize, parents: &[u16], root: usize, label: &[u16], work: &mut 
         return ascendants(parents, label, work);
     }
     heads(parents, root, label, work)
+}
+
+// How many cells of column k of a lent label table, from 2 on, are the sheet's own before the first that is not. LEVEL and ASCENDANT are made only where they are
+// not found to be the sheet's own.
+pub fn agree_column(
+    k: usize,
+    parents: &[u16],
+    root: usize,
+    label: &[u16],
+    work: &mut [u16],
+) -> usize
+    requires { ⌜ (2 ≤ k) × (k < 6) × Columns (now parents) (now label) (now work) k × (root ≡ rootOf (now parents)) ⌝ }
+    ensures { λ r. ⌜ Agree (now (label .entry)) (k * length (now (parents .entry))) (labelTable (now (parents .entry))) (k * length (now (parents .entry))) (length (now (parents .entry))) r ⌝ }
+{
+    let n = parents.len();
+    if column_holds(k, parents, root, label, work) {
+        return n;
+    }
+    column(k, parents, root, label, work);
+    cells::agree(label, k * n, work, n, n)
+}
+
+// Whether column k is the sheet's own, where that is told without making it: of LEVEL and ASCENDANT.
+fn column_holds(k: usize, parents: &[u16], root: usize, label: &[u16], work: &[u16]) -> bool
+    requires { ⌜ Columns (now parents) (now label) (now work) k × (root ≡ rootOf (now parents)) ⌝ }
+    ensures { λ r. ⌜ (r ≡ true → Same (now (label .entry)) (k * length (now (parents .entry))) (labelTable (now (parents .entry))) (k * length (now (parents .entry))) (length (now (parents .entry)))) ⌝ }
+{
+    if k == 2 {
+        return steps::levels_hold(parents, root, label, work);
+    }
+    if k == 4 {
+        return steps::ascendants_hold(parents, root, label, work);
+    }
+    false
 }
 
 // LEVEL, into the n cells of work from n on.

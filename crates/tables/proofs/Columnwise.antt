@@ -1,7 +1,7 @@
 -- A label table filled or compared column by column: its first k columns are the sheet's own.
 -- Assumes nothing.
-use Prim.Native.Nat.{ℕ, suc, _+_, _*_, _≤_, _<_}
-use native.Mathlib.Nat.{suc-mul, mul-le-mul-right}
+use Prim.Native.Nat.{ℕ, suc, _+_, _*_, _≤_}
+use native.Mathlib.Nat.{suc-mul}
 use native.Mathlib.Omega.{arith}
 use mathlib.Core.Path.{_≡_, sym, _∙_}
 use mathlib.Core.List.{List}
@@ -12,13 +12,6 @@ use Rattle.tree.specs.Sections.{Same, firstDifference}
 use Rattle.tree.specs.Ready.{Ready, Columns}
 use Rattle.tree.proofs.Cells.{label-length}
 use Rattle.tree.proofs.Differences.{difference-none, difference-all}
-
--- there is room for column k
-pub column-room : (k n : ℕ) → k < 6 → k * n + n ≤ labelCells n
-column-room k n h =
-    let one : suc k * n ≡ k * n + n = suc-mul k n in
-    let most : suc k * n ≤ 6 * n = mul-le-mul-right n h in
-    omega arith
 
 -- column k too is the sheet's own
 pub columns-more : {s table work : List ℕ} {k : ℕ} → Ready s work → length table ≡ labelCells (length s)

@@ -60,8 +60,7 @@ pub(crate) fn label(parents: &[u16], table: &[u16], work: &mut [u16]) -> usize
     }
     let mut k = 2;
     while k < 6 {
-        labels::column(k, parents, root, table, work);
-        let same = cells::agree(table, k * n, work, n, n);
+        let same = labels::agree_column(k, parents, root, table, work);
         if same < n {
             return k * n + same;
         }

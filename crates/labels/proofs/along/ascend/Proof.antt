@@ -1,47 +1,32 @@
--- `labels::along::ascend` meets its contract: the own bit is added once or not at all.
+-- `labels::along::ascend` meets its contract: the two cases of the bit that is added are those of the definition.
 -- Assumes nothing.
 use native.Mathlib.Omega.{arith}
 use borrow.Author.Needs.{needs}
-use Prim.Native.Nat.{_*_}
-use native.Mathlib.Nat.{mul-zero, mul-one}
-use mathlib.Core.Path.{_≡_, _∙_}
-use mathlib.Core.Logic.{_⊎_, inl, inr, ⊎-elim}
-use mathlib.Core.Bool.{true, false}
+use mathlib.Core.Path.{_≡_}
 use borrow.Author.Tests.{eq-eqb, ne-eqb}
-use lib.Dec.{eqb}
 use Rattle.bits.specs.Bits.{lowestOne}
 use Rattle.tree.proofs.Scans.{by-equal}
 use Rattle.labels.proofs.along.ascend.Statement.{statement}
 use Rattle.labels.proofs.along.ascend.Tie as tie
 
--- what is added
-added : (c : tie.After-differ)
-    → let a = c .before .before .args in
-    let x = c .before .lowest-one .result * c .differ .result in
-    ((eqb (a .inlabel) (a .upper) ≡ true) × (x ≡ 0)) ⊎ ((eqb (a .inlabel) (a .upper) ≡ false) × (x ≡ lowestOne (a .inlabel)))
-added c =
-    let a = c .before .before .args in
-    let bit = c .before .lowest-one in
-    let d = c .differ .ensures in
-    by-equal (a .inlabel) (a .upper)
-    (λ e. let t = eq-eqb _ _ e in inl (t, rw (d, t) (mul-zero (bit .result))))
-    (λ q. let t = ne-eqb _ _ q in inr (t, rw (d, t) (mul-one (bit .result) ∙ bit .ensures)))
-
-lowest-one-requires : tie.Need-lowest-one-requires
-lowest-one-requires c κs = search needs
-
-differ-requires : tie.Need-differ-requires
-differ-requires c κs = search needs
-
-mul-result : tie.Need-mul-result
-mul-result c = ⊎-elim (λ k. omega arith) (λ k. omega arith) (added c)
+added-requires : tie.Need-added-requires
+added-requires c κs = search needs
 
 add-result : tie.Need-add-result
-add-result c = ⊎-elim (λ k. omega arith) (λ k. omega arith) (added c)
+add-result c =
+    let a = c .before .args in
+    let e = c .added .ensures in
+    by-equal (a .inlabel) (a .upper)
+    (λ q. let none : c .added .result ≡ 0 = rw (eq-eqb _ _ q) at e in omega arith)
+    (λ q. let one : c .added .result ≡ lowestOne (a .inlabel) = rw (ne-eqb _ _ q) at e in omega arith)
 
 returns : tie.Need-returns
-returns c = ⊎-elim (λ k. rw (k .0) (omega arith)) (λ k. rw (k .0) (omega arith)) (added c)
+returns c =
+    let a = c .before .args in
+    let e = c .added .ensures in
+    by-equal (a .inlabel) (a .upper)
+    (λ q. let none : c .added .result ≡ 0 = rw (eq-eqb _ _ q) at e in rw (eq-eqb _ _ q) (omega arith))
+    (λ q. let one : c .added .result ≡ lowestOne (a .inlabel) = rw (ne-eqb _ _ q) at e in rw (ne-eqb _ _ q) (omega arith))
 
 pub ascend-spec : {M : Type 1} → statement M
-ascend-spec =
-    tie.close (tie.spec lowest-one-requires differ-requires mul-result add-result returns)
+ascend-spec = tie.close (tie.spec added-requires add-result returns)

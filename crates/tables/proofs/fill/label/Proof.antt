@@ -13,7 +13,8 @@ use Rattle.tree.proofs.Columns.{ready-kept}
 use Rattle.tree.proofs.Differences.{same-none, same-all}
 use Rattle.tree.proofs.Roots.{root-of-next}
 use Rattle.tables.proofs.Sections.{copied-upto}
-use Rattle.tables.proofs.Columnwise.{column-room, columns-more}
+use Rattle.labels.proofs.Stepping.{column-room}
+use Rattle.tables.proofs.Columnwise.{columns-more}
 use Rattle.tables.proofs.fill.label.Statement.{statement}
 use Rattle.tables.proofs.fill.label.Tie as tie
 

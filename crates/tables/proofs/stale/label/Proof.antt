@@ -1,4 +1,4 @@
--- `tables::stale::label` meets its contract: the table's first k columns are the sheet's own, and the next is made and compared.
+-- `tables::stale::label` meets its contract: the table's first k columns are the sheet's own, and the next is compared.
 -- Assumes nothing.
 use native.Mathlib.Omega.{arith}
 use borrow.Author.Needs.{needs}
@@ -7,17 +7,19 @@ use native.Mathlib.Numerals.{add-one}
 use mathlib.Core.Path.{_≡_, refl, sym, _∙_}
 use lib.ListN.{length}
 use Rattle.tree.specs.Tree.{rootOf}
+use Rattle.tree.specs.Buffers.{labelCells}
 use Rattle.tree.specs.Ready.{Columns}
 use Rattle.tree.proofs.Cells.{label-length}
 use Rattle.tree.proofs.Columns.{ready-kept}
-use Rattle.tables.proofs.Columnwise.{column-room, columns-more, columns-none}
+use Rattle.labels.proofs.Stepping.{column-room}
+use Rattle.tables.proofs.Columnwise.{columns-more, columns-none}
 use Rattle.tables.proofs.Sections.{agree-all, agree-parts, agree-all-first, agree-parts-first}
-use Rattle.tree.specs.Buffers.{labelCells}
 use Rattle.tables.proofs.stale.label.Statement.{statement}
 use Rattle.tables.proofs.stale.label.Tie as tie
 
 abbrev Inv-loop : tie.InvT-loop
-Inv-loop parents table work₀ n root same k₀ work k = (2 ≤ k) × (k ≤ 6) × Columns parents table work k
+Inv-loop parents table work₀ n root same k₀ work k =
+    (2 ≤ k) × (k ≤ 6) × Columns parents table work k
 
 abbrev μ-loop : tie.MeasureT-loop
 μ-loop parents table work₀ n root same k₀ work k = 6 - k
@@ -57,83 +59,56 @@ loop-holds c =
     let own = agree-all-first (numbers .ensures) (record { cell = λ x h. refl }) (c .if1 .left) in
     (omega arith, omega arith, record { ready = ready-kept (s .pre .0) (numbers .kept .1 .1 .1 .0); cells = s .pre .1; own = own })
 
-column-requires : tie.Need-column-requires Inv-loop μ-loop
+agree-column-requires : tie.Need-agree-column-requires Inv-loop μ-loop
 unfolding rootOf
-column-requires c κs =
+agree-column-requires c κs =
     let l = c .before .before .loop .inv in
     (l .0, c .before .loop-test .taken, l .2, c .before .before .before .before .before .before .before .before .next-root .ensures)
 
-mul-agree : tie.Need-mul-agree Inv-loop μ-loop
-mul-agree c =
-    let c4 = c .before .before .before .before in
-    let s = c4 .before .before .before .before .before .before .before .before .before .before .before in
-    let most = room (c4) in
-    let small = s .pre .0 .small in
-    omega arith
-
-agree-requires : tie.Need-agree-requires Inv-loop μ-loop
-agree-requires c κs =
-    let c3 = c .before .before .before in
-    let c5 = c3 .before .before in
-    let c6 = c5 .before in
-    let s = c6 .before .before .before .before .before .before .before .before .before .before in
-    let most = room (c5) in
-    let cells = s .pre .1 in
-    let ready = c6 .loop .inv .2 .ready .room in
-    let kept = c3 .column .kept .1 .1 .1 .1 .0 in
-    (omega arith, omega arith)
-
 mul-result : tie.Need-mul-result Inv-loop μ-loop
 mul-result c =
-    let c7 = c .before .before .before .before .before .before .before in
-    let s = c7 .before .before .before .before .before .before .before .before .before .before .before in
-    let most = room (c7) in
-    let small = s .pre .0 .small in
+    let most = room (c .before .before .before .before .before) in
+    let small = c .before .before .before .before .before .before .before .before .before .before .before .before .before .before .before .before .pre .0 .small in
     omega arith
 
 add-result : tie.Need-add-result Inv-loop μ-loop
 add-result c =
-    let c7 = c .before .before .before .before .before .before .before in
-    let s = c7 .before .before .before .before .before .before .before .before .before .before .before in
-    let most = room (c7) in
-    let small = s .pre .0 .small in
+    let most = room (c .before .before .before .before .before) in
+    let small = c .before .before .before .before .before .before .before .before .before .before .before .before .before .before .before .before .pre .0 .small in
     let taken = c .if2 .taken in
     omega arith
 
 same-length-2 : tie.Need-same-length-2 Inv-loop μ-loop
 same-length-2 c =
-    let c5 = c .before .before .before .before .before in
-    let c8 = c5 .before .before .before in
-    let s = c8 .before .before .before .before .before .before .before .before .before .before in
-    c5 .column .kept .1 .1 .1 .1 .0 ∙ c8 .loop .inv .2 .ready .room ∙ sym (s .pre .0 .room)
+    let c3 = c .before .before .before in
+    let s = c .before .before .before .before .before .before .before .before .before .before .before .before .before .before .before .before in
+    c3 .agree-column .kept .1 .1 .1 .1 .0 ∙ c3 .before .before .before .loop .inv .2 .ready .room ∙ sym (s .pre .0 .room)
 
 returns-2 : tie.Need-returns-2 Inv-loop μ-loop
 returns-2 c =
-    let c5 = c .before .before .before .before .before in
-    let c7 = c5 .before .before in
-    let c8 = c7 .before in
-    let s = c8 .before .before .before .before .before .before .before .before .before .before in
-    let most = room (c7) in
+    let c3 = c .before .before .before in
+    let c5 = c3 .before .before in
+    let s = c .before .before .before .before .before .before .before .before .before .before .before .before .before .before .before .before in
+    let most = room c5 in
     let own = label-length (s .args .parents .now) in
-    agree-parts (c8 .loop .inv .2 .own) (c .before .agree .ensures) (c5 .column .ensures) (omega arith) (c .if2 .taken)
+    agree-parts (c5 .before .loop .inv .2 .own) (c3 .agree-column .ensures) (record { cell = λ x h. refl }) (omega arith) (c .if2 .taken)
 
 add-k : tie.Need-add-k Inv-loop μ-loop
 add-k c = search needs
 
 loop-less : tie.Need-loop-less Inv-loop μ-loop
 loop-less c =
-    let taken = c .before .before .before .before .before .before .before .loop-test .taken in
+    let taken = c .before .before .before .before .before .loop-test .taken in
     omega arith
 
 loop-again : tie.Need-loop-again Inv-loop μ-loop
 loop-again c =
-    let c5 = c .before .before .before .before .before in
-    let c7 = c5 .before .before in
-    let c8 = c7 .before in
-    let l = c8 .loop .inv in
-    let column = c5 .column in
-    let taken = c7 .loop-test .taken in
-    let own = agree-all (l .2 .own) (c .before .agree .ensures) (column .ensures) (c .if2 .left) in
+    let c3 = c .before .before .before in
+    let c5 = c3 .before .before in
+    let l = c5 .before .loop .inv in
+    let taken = c5 .loop-test .taken in
+    let column = c3 .agree-column in
+    let own = agree-all (l .2 .own) (column .ensures) (record { cell = λ x h. refl }) (c .if2 .left) in
     (omega arith, omega arith, rw add-one (columns-more (ready-kept (l .2 .ready) (column .kept .1 .1 .1 .1 .0)) (l .2 .cells) own))
 
 mul-result-2 : tie.Need-mul-result-2 Inv-loop μ-loop
@@ -163,9 +138,7 @@ label-spec =
     same-length
     returns
     loop-holds
-    column-requires
-    mul-agree
-    agree-requires
+    agree-column-requires
     mul-result
     add-result
     same-length-2
