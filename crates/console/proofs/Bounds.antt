@@ -67,7 +67,7 @@ took take (line b ls) a rest e =
 
 -- the line of an illegible line
 illegible-length : (number : ℕ) → Short number → length (illegible number) ≤ 27
-illegible-length number h = refusal-length 12 number (omega arith) h
+illegible-length number h = refusal-length _ number (omega arith) h
 
 -- what is printed for bytes after the last LF
 leftover-length : (number : ℕ) (b : List ℕ) → Short number → length (leftover number b) ≤ 27

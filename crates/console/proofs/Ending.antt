@@ -2,7 +2,7 @@
 -- Assumes nothing.
 use Prim.Native.Nat.{ℕ, _≤_, _<_}
 use native.Mathlib.Omega.{arith}
-use mathlib.Core.Path.{_≡_, refl, ap, _∙_}
+use mathlib.Core.Path.{_≡_, refl, sym, ap, _∙_}
 use mathlib.Core.List.{List}
 use borrow.Author.Tests.{le-leb, lt-leb}
 use lib.ListN.{length}
@@ -33,7 +33,7 @@ output-room input out {text} h e = let same : length text ≡ length (output inp
 pub run-short : {input out : List ℕ} {n : ℕ} → n ≡ room (length input) → length out < n → RunGives input out (Short n) out
 run-short {input} {out} {n} e h =
     let no-room = lt-leb (room (length input)) (length out) (rw e at h) in
-    record { outcome = rw no-room (ap Short e); buffer = rw no-room refl; bound = output-bound input }
+    record { outcome = sym no-room; count = rw no-room e; buffer = rw no-room refl; bound = output-bound input }
 
 -- one that is not has the text at its start
 pub run-text : {input out out′ : List ℕ} {n r : ℕ} → n ≡ room (length input) → n ≤ length out → Puts out 0 (output input) out′ r → RunGives input out (Text r) out′
@@ -41,7 +41,8 @@ run-text {input} {out} {out′} {n} {r} e h p =
     let roomy = le-leb (room (length input)) (length out) (rw e at h) in
     let long : r ≡ length (output input) = omega (arith, p .place) in
     record {
-      outcome = rw roomy (ap Text long);
+      outcome = sym roomy;
+      count = rw roomy long;
       buffer = rw roomy (p .written ∙ over-start out (output input));
       bound = output-bound input;
     }

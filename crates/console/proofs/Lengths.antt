@@ -13,7 +13,7 @@ use Rattle.tree.specs.Lca.{lca}
 use Rattle.tree.specs.Tree.{parent, climb, isRoot, nextRoot, rootOf}
 use Rattle.tree.specs.Trail.{liftCount}
 use Rattle.tree.specs.Verdict.{accepted}
-use Rattle.tree.specs.Tests.{Test, verdict, empty, tooLarge, wrongLength, parentOutOfRange, noRoot, secondRoot, cycle, nothingListed, nodeOutOfRange, noCommonAncestor, sheetTests, questionTests, Accepted}
+use Rattle.tree.specs.Tests.{Test, testNumber, testPlace, verdict, empty, tooLarge, wrongLength, parentOutOfRange, noRoot, secondRoot, cycle, nothingListed, nodeOutOfRange, noCommonAncestor, sheetTests, questionTests, Accepted}
 use Rattle.tree.proofs.Scans.{least-le, least-from}
 use Rattle.tree.proofs.Roots.{root-of}
 use Rattle.tree.proofs.Lcas.{lca-found}
@@ -46,7 +46,7 @@ refusal-length number place h k =
 -- the numbers and places of some tests
 abbrev pub Shorts : List Test → Type 0
 Shorts [] = Unit {0}
-Shorts (t ∷ ts) = Short (t .number) × Short (t .place) × Shorts ts
+Shorts (t ∷ ts) = Short (testNumber t) × Short (testPlace t) × Shorts ts
 
 -- what is printed by a verdict: a refusal, or the text of what is accepted
 pub given-length : (ts : List Test) (b : List ℕ) (m : ℕ) → Shorts ts → 27 ≤ m → (verdict ts ≡ accepted → length b ≤ m) → length (given (verdict ts) b) ≤ m
@@ -56,7 +56,7 @@ given-length (t ∷ ts) b m h low fits =
     let rest = given-length ts b m (h .2) low in
     cases (t .passes)
     (λ e. rw e (rest (rw e at fits)))
-    (λ e. rw e (le-trans (refusal-length (t .number) (t .place) (h .0) (h .1)) low))
+    (λ e. rw e (le-trans (refusal-length (testNumber t) (testPlace t) (h .0) (h .1)) low))
 
 -- those of the tests of a machine's count
 pub count-shorts : (n : ℕ) → Shorts (empty n ∷ tooLarge most n ∷ [])

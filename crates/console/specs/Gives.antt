@@ -6,14 +6,13 @@ use mathlib.Core.Path.{_≡_}
 use mathlib.Core.List.{List, _++_}
 use mathlib.Core.Option.{Option, none, some}
 use lib.ListN.{length, take, drop}
-use Rattle.tree.specs.Verdict.{numberOf, placeOf}
 use Rattle.tree.specs.Tests.{Accepted}
 use Rattle.tree.specs.Buffers.{labelCells, tourCells, liftCells, workCells}
 use Rattle.tree.specs.Tables.{Lent, own}
 use Rattle.text.specs.Lines.{Lines, lines}
 use Rattle.console.specs.Forms.{Query, pair, many, Form, machine, part, asked}
 use Rattle.console.specs.Read.{next, listed, entry, query, nextAs}
-use Rattle.console.specs.Print.{refusal, machineLine}
+use Rattle.console.specs.Print.{refusalLine, machineLine}
 use Rattle.console.specs.Run.{most, Sheet, sheet, broken, parts, sheetRun, machineRun, run}
 use Rattle.console.specs.declared.form.Question.{Question}
 use Rattle.console.specs.declared.form.Question.the-variants.{Pair, Many}
@@ -100,7 +99,7 @@ pub record NextGives (input : List ℕ) (at : ℕ) (beside : List ℕ) (r : Next
 -- what is printed from here on, by what the machine line gave
 abbrev pub startText : List ℕ → Start → List ℕ
 startText input (start.Parts n end) = machineLine n ++ sheetRun (parts n 0 (lines (drop end input)))
-startText input (start.Refused why) = refusal (numberOf why) (placeOf why)
+startText input (start.Refused why) = refusalLine why
 
 -- a machine of so many parts, whose line ends at a position
 pub record AdmitGives (n end : ℕ) (r : Start) : Type 0 where

@@ -3,12 +3,17 @@
 use Prim.Native.Nat.{ℕ}
 use mathlib.Core.List.{List, _++_}
 use Rattle.text.specs.Bytes.{bytes, wordNumber}
-use Rattle.tree.specs.Verdict.{Verdict, accepted, refused}
+use Rattle.tree.specs.declared.Refusal.{Refusal}
+use Rattle.tree.specs.Verdict.{Verdict, accepted, refused, numberOf, placeOf}
 use Rattle.console.specs.Forms.{listText}
 
 -- "prints `(refused N (at P))`"
 unfoldable pub refusal : ℕ → ℕ → List ℕ
 refusal number place = wordNumber (bytes "(refused ") number ++ (wordNumber (bytes " (at ") place ++ bytes "))\n")
+
+-- the line of a case of the enum, with the number and place that it has
+abbrev pub refusalLine : Refusal → List ℕ
+refusalLine why = refusal (numberOf why) (placeOf why)
 
 -- "The first line repeats the machine count"
 unfoldable pub machineLine : ℕ → List ℕ

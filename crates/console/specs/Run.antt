@@ -6,21 +6,22 @@ use mathlib.Core.List.{List, [], _∷_, _++_}
 use mathlib.Core.Option.{Option·elim, bind}
 use lib.Dec.{leb}
 use lib.ListN.{length}
+use Rattle.tree.specs.declared.Refusal.the-variants.{MalformedLine}
 use Rattle.tree.specs.Tests.{verdict, empty, tooLarge, sheetTests, questionTests}
 use Rattle.tree.specs.Lca.{lca}
 use Rattle.tree.specs.Trail.{liftCount}
 use Rattle.text.specs.Lines.{Lines, tail, line, lines}
 use Rattle.console.specs.Forms.{Query, pair, many}
 use Rattle.console.specs.Read.{read, count, entry, query, nextAs}
-use Rattle.console.specs.Print.{refusal, machineLine, pairLine, manyLine, given}
+use Rattle.console.specs.Print.{refusalLine, machineLine, pairLine, manyLine, given}
 
 -- "1 to 512 in the program"
 abbrev pub most : ℕ
 most = 512
 
--- the line of an illegible line: number 12, at the line's number
+-- the line of an illegible line, at the line's number
 abbrev pub illegible : ℕ → List ℕ
-illegible number = refusal 12 number
+illegible number = refusalLine (MalformedLine number)
 
 -- ---- questions
 

@@ -4,15 +4,15 @@ use tree::Outcome;
 use tree::Refusal;
 use tree::Traced;
 ghost use mathlib.Core.List.{[]};
-ghost use Rattle.tree.specs.Verdict.{numberOf, placeOf, verdictOf, tracedOf};
+ghost use Rattle.tree.specs.Verdict.{verdictOf, tracedOf};
 ghost use Rattle.text.specs.Puts.{Room, Puts};
 ghost use Rattle.console.specs.Forms.{listText};
-ghost use Rattle.console.specs.Print.{refusal as Print·refusal, machineLine, pairLine, manyLine, given};
+ghost use Rattle.console.specs.Print.{refusalLine, machineLine, pairLine, manyLine, given};
 
 // The line of a refusal.
 pub(crate) fn refusal(out: &mut [u8], at: usize, why: Refusal) -> usize
-    requires { ⌜ Room (now out) at (Print·refusal (numberOf why) (placeOf why)) ⌝ }
-    ensures { λ r. ⌜ Puts (now (out .entry)) at (Print·refusal (numberOf why) (placeOf why)) (now (out .exit)) r ⌝ }
+    requires { ⌜ Room (now out) at (refusalLine why) ⌝ }
+    ensures { λ r. ⌜ Puts (now (out .entry)) at (refusalLine why) (now (out .exit)) r ⌝ }
 {
     let numbered = why.number_and_place();
     let number = numbered.number as usize;

@@ -12,7 +12,7 @@ use lib.ListN.{length, getD, set}
 use lib.Seq.{getD-set-same, getD-set-other}
 use Rattle.tree.specs.Sections.{Same}
 use Rattle.tree.specs.Tree.{parent, climb, isRoot, nextRoot, rootOf}
-use Rattle.tree.specs.Tests.{parentOutOfRange, cycle}
+use Rattle.tree.specs.Tests.{testPlace, parentOutOfRange, cycle}
 use Rattle.tree.proofs.Scans.{by-test, by-equal}
 use Rattle.tree.proofs.Climbs.{Inside, climb-one, climb-add, climb-split, climb-stays, climb-inside}
 use Rattle.tree.proofs.Roots.{is-root, root-is, root-of, no-second, meets-by-n}
@@ -21,7 +21,7 @@ use Rattle.cells.proofs.Stretches.{no-bits}
 use Rattle.tables.specs.Jumps.{OneRoot, Rooted, Up, Linked, Links, Hopped, Jumped}
 
 -- a sheet that has passed tests 4 to 6 has one root
-pub one-root : (s : List ℕ) → length s ≤ parentOutOfRange s .place → rootOf s < length s → length s ≤ nextRoot s (suc (rootOf s)) → OneRoot s (rootOf s)
+pub one-root : (s : List ℕ) → length s ≤ testPlace (parentOutOfRange s) → rootOf s < length s → length s ≤ nextRoot s (suc (rootOf s)) → OneRoot s (rootOf s)
 one-root s entries below none =
     record { inside = entries-inside-place s entries; part = below; itself = root-of s .here below; only = no-second s below none }
 
@@ -146,7 +146,7 @@ linked-elsewhere {s} {w} {r} {v} one l h q =
     (λ e. e)
 
 -- after a pass that gives 0 there is no loop
-pub no-cycle : {s w w′ : List ℕ} {r k bits : ℕ} → Links s w r k → Jumped s w r bits w′ → bits ≡ 0 → length s ≡ cycle s .place
+pub no-cycle : {s w w′ : List ℕ} {r k bits : ℕ} → Links s w r k → Jumped s w r bits w′ → bits ≡ 0 → length s ≡ testPlace (cycle s)
 no-cycle {s} {k = k} g jumped z =
     cycle-place s (length s) (le-refl _)
     (λ v h. linked-root (g .rooted .one) (jumped .twice k (g .linked)) h (jumped .all z v h))

@@ -7,10 +7,11 @@ use mathlib.Core.Path.{_≡_, refl, sym, ap, _∙_}
 use mathlib.Core.Bool.{Bool, true, false, not}
 use mathlib.Core.List.{List}
 use borrow.Author.Tests.{lt-ltb, le-leb, lt-leb, eq-eqb, ltb-true, leb-true, eqb-true, not-false}
+use lib.Dec.{eqb}
 use lib.ListN.{length}
 use Rattle.tree.specs.Scan.{least}
 use Rattle.tree.specs.Tree.{parent, climb, isRoot, rootOf, MeetsRoot, Tree}
-use Rattle.tree.specs.Tests.{lowestBad, empty, tooLarge, wrongLength, parentOutOfRange, noRoot, secondRoot, cycle, limit, sheetTests, Accepted}
+use Rattle.tree.specs.Tests.{empty, tooLarge, wrongLength, parentOutOfRange, noRoot, secondRoot, cycle, limit, sheetTests, Accepted}
 use Rattle.tree.proofs.Scans.{least-before, least-none}
 use Rattle.tree.proofs.Climbs.{Inside, climb-inside}
 use Rattle.tree.proofs.Roots.{is-root, root-is, root-of, no-second, second-none, meets-by-n}
@@ -18,13 +19,13 @@ use Rattle.tree.proofs.Places.{entries-inside-place}
 use Rattle.tree.proofs.Trees.{root-found}
 use Rattle.tree.proofs.Verdicts.{passed-accepted, accepted-passed}
 
--- ---- a test for the lowest bad number
+-- ---- a test for the lowest bad number passes exactly if no number is bad
 
-none-bad : (number : ℕ) (bad : ℕ → Bool) (n : ℕ) → ((i : ℕ) → i < n → bad i ≡ false) → lowestBad number bad n .passes ≡ true
-none-bad number bad n h = eq-eqb _ _ (least-none bad n h)
+none-bad : (bad : ℕ → Bool) (n : ℕ) → ((i : ℕ) → i < n → bad i ≡ false) → eqb (least bad n) n ≡ true
+none-bad bad n h = eq-eqb _ _ (least-none bad n h)
 
-no-bad : (number : ℕ) (bad : ℕ → Bool) (n : ℕ) → lowestBad number bad n .passes ≡ true → (i : ℕ) → i < n → bad i ≡ false
-no-bad number bad n e i h = let all : least bad n ≡ n = eqb-true _ _ e in least-before bad n i (omega arith)
+no-bad : (bad : ℕ → Bool) (n : ℕ) → eqb (least bad n) n ≡ true → (i : ℕ) → i < n → bad i ≡ false
+no-bad bad n e i h = let all : least bad n ≡ n = eqb-true _ _ e in least-before bad n i (omega arith)
 
 -- ---- climbs that meet the root
 
@@ -43,7 +44,7 @@ entries-inside s e = entries-inside-place s (le-of-eq (sym (eqb-true _ _ e)))
 
 inside-passes : (s : List ℕ) → Inside s → parentOutOfRange s .passes ≡ true
 unfolding parentOutOfRange
-inside-passes s inside = none-bad 4 _ (length s) (λ v h. lt-leb (length s) (parent s v) (inside v h))
+inside-passes s inside = none-bad _ (length s) (λ v h. lt-leb (length s) (parent s v) (inside v h))
 
 -- 5: some part names itself
 root-below : (s : List ℕ) → noRoot s .passes ≡ true → rootOf s < length s
@@ -58,11 +59,11 @@ root-alone s below e = no-second s below (leb-true _ _ e)
 -- 7: every climb meets the root
 all-meet : (s : List ℕ) → cycle s .passes ≡ true → (v : ℕ) → v < length s → MeetsRoot s v
 unfolding cycle
-all-meet s e v h = record { steps = length s; meets = not-false _ (no-bad 7 _ (length s) e v h) }
+all-meet s e v h = record { steps = length s; meets = not-false _ (no-bad _ (length s) e v h) }
 
 meet-passes : (s : List ℕ) → Inside s → ((v : ℕ) → v < length s → MeetsRoot s v) → cycle s .passes ≡ true
 unfolding cycle
-meet-passes s inside all = none-bad 7 _ (length s) (λ v h. ap not (meets-by-n s inside v h (all v h)))
+meet-passes s inside all = none-bad _ (length s) (λ v h. ap not (meets-by-n s inside v h (all v h)))
 
 -- ---- accepted exactly if it is one rooted tree
 

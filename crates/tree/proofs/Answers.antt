@@ -9,11 +9,12 @@ use mathlib.Core.Logic.{_≢_}
 use mathlib.Core.Bool.{Bool, true, false}
 use mathlib.Core.List.{List, [], _∷_}
 use borrow.Author.Tests.{eq-eqb, ne-eqb, eqb-true, lt-ltb, le-ltb, le-leb, lt-leb}
-use lib.Dec.{lit<}
+use lib.Dec.{lit<, eqb}
 use lib.ListN.{length, replicate}
+use Rattle.tree.specs.Scan.{least}
 use Rattle.tree.specs.Tree.{nextRoot, rootOf}
 use Rattle.tree.specs.Verdict.{Verdict, accepted, refused}
-use Rattle.tree.specs.Tests.{Test, verdict, lowestBad, empty, tooLarge, wrongLength, parentOutOfRange, noRoot, secondRoot, cycle, staleTable, limit, treeTests, sheetTests}
+use Rattle.tree.specs.Tests.{Test, testNumber, testPlace, verdict, empty, tooLarge, wrongLength, parentOutOfRange, noRoot, secondRoot, cycle, staleTable, limit, treeTests, sheetTests}
 use Rattle.tree.specs.Tables.{Lent, own, endToEnd}
 use Rattle.tree.specs.Sections.{firstDifference}
 use Rattle.tree.specs.Buffers.{workAfter, filled}
@@ -21,53 +22,53 @@ use Rattle.tree.proofs.Scans.{by-test, by-equal, by-order, least-le}
 use Rattle.tree.proofs.Differences.{stale-place}
 use Rattle.tree.proofs.Verdicts.{Passed, passed-accepted, accepted-passed, passed-on, first-refused}
 
--- a test for the lowest bad number passes where its place is n, and fails where it is below
-pub bad-passes : (number : ℕ) (bad : ℕ → Bool) (n : ℕ) → n ≤ lowestBad number bad n .place → lowestBad number bad n .passes ≡ true
-bad-passes number bad n h = eq-eqb _ _ (le-antisymm (least-le bad n) h)
+-- a test for the lowest bad number passes where that is n, and fails where it is below
+pub bad-passes : (bad : ℕ → Bool) (n : ℕ) → n ≤ least bad n → eqb (least bad n) n ≡ true
+bad-passes bad n h = eq-eqb _ _ (le-antisymm (least-le bad n) h)
 
-pub bad-fails : (number : ℕ) (bad : ℕ → Bool) (n : ℕ) → lowestBad number bad n .place < n → lowestBad number bad n .passes ≡ false
-bad-fails number bad n h = ne-eqb _ _ (ne-of-lt h)
+pub bad-fails : (bad : ℕ → Bool) (n : ℕ) → least bad n < n → eqb (least bad n) n ≡ false
+bad-fails bad n h = ne-eqb _ _ (ne-of-lt h)
 
 module _ (s : List ℕ) where
   -- no entry is off the sheet; one part names itself; no other does
-  entries-pass : length s ≤ parentOutOfRange s .place → Passed (parentOutOfRange s ∷ [])
+  entries-pass : length s ≤ testPlace (parentOutOfRange s) → Passed (parentOutOfRange s ∷ [])
   unfolding parentOutOfRange
-  entries-pass h = (bad-passes 4 _ (length s) h, tt)
+  entries-pass h = (bad-passes _ (length s) h, tt)
 
-  root-passes : length s ≤ parentOutOfRange s .place → rootOf s < length s → Passed (parentOutOfRange s ∷ noRoot s ∷ [])
+  root-passes : length s ≤ testPlace (parentOutOfRange s) → rootOf s < length s → Passed (parentOutOfRange s ∷ noRoot s ∷ [])
   unfolding noRoot
   root-passes h r = (entries-pass h .0, (lt-ltb _ _ r, tt))
 
-  alone-passes : length s ≤ parentOutOfRange s .place → rootOf s < length s → length s ≤ nextRoot s (suc (rootOf s))
+  alone-passes : length s ≤ testPlace (parentOutOfRange s) → rootOf s < length s → length s ≤ nextRoot s (suc (rootOf s))
       → Passed (parentOutOfRange s ∷ noRoot s ∷ secondRoot s ∷ [])
   unfolding secondRoot
   alone-passes h r a = (entries-pass h .0, (root-passes h r .1 .0, (le-leb _ _ a, tt)))
 
-  pub refused-out-of-range : parentOutOfRange s .place < length s → verdict (treeTests s) ≡ refused 4 (parentOutOfRange s .place)
+  pub refused-out-of-range : testPlace (parentOutOfRange s) < length s → verdict (treeTests s) ≡ refused 4 (testPlace (parentOutOfRange s))
   unfolding parentOutOfRange
-  refused-out-of-range h = first-refused [] (parentOutOfRange s) _ tt (bad-fails 4 _ (length s) h)
+  refused-out-of-range h = first-refused [] (parentOutOfRange s) _ tt (bad-fails _ (length s) h)
 
-  pub refused-no-root : length s ≤ parentOutOfRange s .place → length s ≤ rootOf s → verdict (treeTests s) ≡ refused 5 0
+  pub refused-no-root : length s ≤ testPlace (parentOutOfRange s) → length s ≤ rootOf s → verdict (treeTests s) ≡ refused 5 0
   unfolding noRoot
   refused-no-root h r = first-refused (parentOutOfRange s ∷ []) (noRoot s) _ (entries-pass h) (le-ltb _ _ r)
 
-  pub refused-second-root : length s ≤ parentOutOfRange s .place → rootOf s < length s → nextRoot s (suc (rootOf s)) < length s
+  pub refused-second-root : length s ≤ testPlace (parentOutOfRange s) → rootOf s < length s → nextRoot s (suc (rootOf s)) < length s
       → verdict (treeTests s) ≡ refused 6 (nextRoot s (suc (rootOf s)))
   unfolding secondRoot
   refused-second-root h r b = first-refused (parentOutOfRange s ∷ noRoot s ∷ []) (secondRoot s) _ (root-passes h r) (lt-leb _ _ b)
 
-  pub refused-cycle : length s ≤ parentOutOfRange s .place → rootOf s < length s → length s ≤ nextRoot s (suc (rootOf s)) → cycle s .place < length s
-      → verdict (treeTests s) ≡ refused 7 (cycle s .place)
+  pub refused-cycle : length s ≤ testPlace (parentOutOfRange s) → rootOf s < length s → length s ≤ nextRoot s (suc (rootOf s)) → testPlace (cycle s) < length s
+      → verdict (treeTests s) ≡ refused 7 (testPlace (cycle s))
   unfolding cycle
   refused-cycle h r a b =
-      first-refused (parentOutOfRange s ∷ noRoot s ∷ secondRoot s ∷ []) (cycle s) [] (alone-passes h r a) (bad-fails 7 _ (length s) b)
+      first-refused (parentOutOfRange s ∷ noRoot s ∷ secondRoot s ∷ []) (cycle s) [] (alone-passes h r a) (bad-fails _ (length s) b)
 
-  pub accepted-tree-tests : length s ≤ parentOutOfRange s .place → rootOf s < length s → length s ≤ nextRoot s (suc (rootOf s)) → length s ≤ cycle s .place
+  pub accepted-tree-tests : length s ≤ testPlace (parentOutOfRange s) → rootOf s < length s → length s ≤ nextRoot s (suc (rootOf s)) → length s ≤ testPlace (cycle s)
       → verdict (treeTests s) ≡ accepted
   unfolding cycle
   accepted-tree-tests h r a c =
       let (p₄, (p₅, (p₆, _))) = alone-passes h r a in
-      passed-accepted (treeTests s) (p₄, (p₅, (p₆, (bad-passes 7 _ (length s) c, tt))))
+      passed-accepted (treeTests s) (p₄, (p₅, (p₆, (bad-passes _ (length s) c, tt))))
 
   -- ---- tests 1 to 3
 
@@ -114,12 +115,12 @@ module _ (t : Lent) where
   pub stale-refused : firstDifference (endToEnd t) (endToEnd (own (t .parents))) < length (endToEnd (own (t .parents)))
       → verdict (staleTable t ∷ []) ≡ refused 8 (firstDifference (endToEnd t) (endToEnd (own (t .parents))))
   unfolding staleTable
-  stale-refused h = rw (← stale-place t) (first-refused [] (staleTable t) [] tt (bad-fails 8 _ _ (rw (stale-place t) h)))
+  stale-refused h = rw (← stale-place t) (first-refused [] (staleTable t) [] tt (bad-fails _ _ (rw (stale-place t) h)))
 
   pub stale-accepted : length (endToEnd (own (t .parents))) ≤ firstDifference (endToEnd t) (endToEnd (own (t .parents)))
       → verdict (staleTable t ∷ []) ≡ accepted
   unfolding staleTable
-  stale-accepted h = passed-accepted (staleTable t ∷ []) (bad-passes 8 _ _ (rw (stale-place t) h), tt)
+  stale-accepted h = passed-accepted (staleTable t ∷ []) (bad-passes _ _ (rw (stale-place t) h), tt)
 
 -- ---- the other buffers
 
@@ -147,7 +148,7 @@ work-accepted v work e = rw e
 -- the tests of a list are all after the third
 abbrev pub Later : List Test → Type 0
 Later [] = Unit {0}
-Later (t ∷ ts) = (3 < t .number) × Later ts
+Later (t ∷ ts) = (3 < testNumber t) × Later ts
 
 -- whatever they answer, work is all zero
 work-cleared : (ts : List Test) (work : List ℕ) → Later ts → workAfter (verdict ts) work ≡ replicate (length work) 0
@@ -155,7 +156,7 @@ unfolding workAfter verdict
 work-cleared [] work l = refl
 work-cleared (t ∷ ts) work l =
     let rest = work-cleared ts work (l .1) in
-    by-test (t .passes) (λ e. rw e rest) (λ e. rw (e, lt-leb (t .number) 3 (l .0)))
+    by-test (t .passes) (λ e. rw e rest) (λ e. rw (e, lt-leb (testNumber t) 3 (l .0)))
 
 pub work-zero : (v : Verdict) (ts : List Test) (work : List ℕ) → v ≡ verdict ts → Later ts → workAfter v work ≡ replicate (length work) 0
 work-zero v ts work e l = rw e (work-cleared ts work l)

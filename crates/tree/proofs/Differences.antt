@@ -11,7 +11,7 @@ use lib.ListN.{length, getD, set, length-append, List·getD-append}
 use lib.Seq.{ext-getD, getD-append-add, getD-set-same, getD-set-other}
 use Rattle.tree.specs.Sections.{Same, differ, firstDifference}
 use Rattle.tree.specs.Tables.{Lent, own, endToEnd}
-use Rattle.tree.specs.Tests.{staleTable}
+use Rattle.tree.specs.Tests.{testPlace, staleTable}
 use Rattle.tree.proofs.Scans.{by-equal, by-order, least-found, least-le, least-here, least-before}
 
 -- ---- stretches of equal cells
@@ -119,7 +119,7 @@ module _ (a b a′ b′ : List ℕ) (equal : length a ≡ length b) where
       (λ l q. difference-here a′ b′ (omega arith) (sym (after-a d) ∙ q ∙ after-b d))
 
 -- test 8 fails at the first difference of the lent tables from the sheet's own
-pub stale-place : (t : Lent) → staleTable t .place ≡ firstDifference (endToEnd t) (endToEnd (own (t .parents)))
+pub stale-place : (t : Lent) → testPlace (staleTable t) ≡ firstDifference (endToEnd t) (endToEnd (own (t .parents)))
 unfolding staleTable firstDifference
 stale-place t = refl
 

@@ -1,4 +1,4 @@
--- Document 01's cases marked P hold of the definitions: one list, one proof, by computation.
+-- Document 01's cases marked P, and its row 11, hold of the definitions: one list, one proof, by computation.
 -- Assumes nothing.
 use mathlib.Core.Path.{_≡_, refl}
 use mathlib.Core.List.{map, flatten}
@@ -7,7 +7,7 @@ use Rattle.bits.specs.Bits.{log2, log2In, rightmostZeros, lowestOne, clearBelow
 use Rattle.tree.specs.Scan.{least, leastFrom, count, tabulate, tabulateFrom, rows, range, keep, every, best, bestFrom, position}
 use Rattle.tree.specs.Tree.{parent, climb, isAncestor, isRoot, nextRoot, rootOf, level}
 use Rattle.tree.specs.Lca.{lca, isCommon}
-use Rattle.tree.specs.Tests.{verdict, empty, tooLarge, wrongLength, parentOutOfRange, noRoot, secondRoot, cycle}
+use Rattle.tree.specs.Tests.{verdict, empty, tooLarge, wrongLength, parentOutOfRange, noRoot, secondRoot, cycle, noCommonAncestor}
 use Rattle.tree.specs.Preorder.{preorderNumber, size, tour, isChild, eachChild, preorderIn, preorder, tourIn, firstVisit}
 use Rattle.tree.specs.Labels.{mostZeros, inlabel, ascendantIn, ascendant, head, labelTable}
 use Rattle.tree.specs.Tour.{tourTable, sparse, sparseRows}
@@ -21,7 +21,7 @@ unfolding trailingZeros ones onesIn flatten
     log2 log2In rightmostZeros lowestOne clearBelow bitsBelow
     least leastFrom count tabulate tabulateFrom rows range keep every best bestFrom position
     parent climb isAncestor isRoot nextRoot rootOf level lca isCommon
-    verdict empty tooLarge wrongLength parentOutOfRange noRoot secondRoot cycle
+    verdict empty tooLarge wrongLength parentOutOfRange noRoot secondRoot cycle noCommonAncestor
     preorderNumber size tour isChild eachChild preorderIn preorder tourIn firstVisit
     mostZeros inlabel ascendantIn ascendant head labelTable tourTable sparse sparseRows liftTable lift
     step1 step2 step3 labelAbove byLabels byTour

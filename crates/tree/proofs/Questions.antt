@@ -39,7 +39,7 @@ module _ (s question : List ℕ) where
   pub refused-node : (r : ℕ) → 0 < length question → r ≡ least (λ i. leb (length s) (getD question i 0)) (length question) → r < length question
       → verdict (questionTests s question) ≡ refused 10 r
   unfolding nodeOutOfRange
-  refused-node r h e b = rw e (first-refused (nothingListed question ∷ []) (nodeOutOfRange s question) _ (some-passes h) (bad-fails 10 _ _ (rw e at b)))
+  refused-node r h e b = rw e (first-refused (nothingListed question ∷ []) (nodeOutOfRange s question) _ (some-passes h) (bad-fails _ _ (rw e at b)))
 
   -- where there is none, each number is a part
   nodes-inside : length question ≤ least (λ i. leb (length s) (getD question i 0)) (length question) → (i : ℕ) → i < length question
@@ -61,7 +61,7 @@ module _ (s question : List ℕ) where
   accepted-question r t h e b =
       let none = rw e at b in
       let parts = question-parts (nodes-inside none) in
-      passed-accepted (questionTests s question) (some-passes h .0, (bad-passes 10 _ _ none, (never-adrift t parts, tt)))
+      passed-accepted (questionTests s question) (some-passes h .0, (bad-passes _ _ none, (never-adrift t parts, tt)))
 
   pub parts-accepted : Tree s → 0 < length question → Parts s question → verdict (questionTests s question) ≡ accepted
   parts-accepted t h parts =

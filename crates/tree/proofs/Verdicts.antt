@@ -8,7 +8,7 @@ use native.Mathlib.Omega.{arith}
 use Rattle.tree.specs.declared.Outcome.{Outcome}
 use Rattle.tree.specs.declared.Outcome.the-variants.{Accepted, Refused}
 use Rattle.tree.specs.Verdict.{Verdict, accepted, refused, verdictOf}
-use Rattle.tree.specs.Tests.{Test, verdict}
+use Rattle.tree.specs.Tests.{Test, testNumber, testPlace, verdict}
 use Rattle.tree.proofs.Scans.{by-test}
 
 -- each test of a list passes
@@ -20,7 +20,7 @@ verdict-pass : (t : Test) (ts : List Test) → t .passes ≡ true → verdict (t
 unfolding verdict
 verdict-pass t ts e = rw e
 
-verdict-fail : (t : Test) (ts : List Test) → t .passes ≡ false → verdict (t ∷ ts) ≡ refused (t .number) (t .place)
+verdict-fail : (t : Test) (ts : List Test) → t .passes ≡ false → verdict (t ∷ ts) ≡ refused (testNumber t) (testPlace t)
 unfolding verdict
 verdict-fail t ts e = rw e
 
@@ -49,7 +49,7 @@ passed-on (t ∷ before) after p = verdict-pass t (before ++ after) (p .0) ∙ p
 
 -- the first test that fails, after others that pass, refuses
 pub first-refused : (before : List Test) (t : Test) (after : List Test) → Passed before → t .passes ≡ false
-    → verdict (before ++ t ∷ after) ≡ refused (t .number) (t .place)
+    → verdict (before ++ t ∷ after) ≡ refused (testNumber t) (testPlace t)
 first-refused before t after p e = passed-on before (t ∷ after) p ∙ verdict-fail t after e
 
 -- tests that accept leave it to those after them, and a refusal stands

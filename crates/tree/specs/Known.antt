@@ -1,5 +1,6 @@
--- Document 01's "Known sheets": the cases marked P, gathered in one list. A case is a list of numbers that the definitions give, and
--- the list that the document states; `proofs/Known.antt` has the one proof that they agree.
+-- Document 01's "Known sheets": the cases marked P, gathered in one list; and last the row of the operator's table that no call gives, since no
+-- code holds it. A case is a list of numbers that the definitions give, and the list that the document states; `proofs/Known.antt` has the one proof
+-- that they agree.
 -- Assumes nothing.
 use Prim.Native.Nat.{ℕ, suc}
 use mathlib.Core.List.{List, [], _∷_, _++_}
@@ -10,7 +11,7 @@ use Rattle.tree.specs.declared.Outcome.the-variants.{Accepted, Refused}
 use Rattle.tree.specs.Scan.{tabulate}
 use Rattle.tree.specs.Lca.{lca}
 use Rattle.tree.specs.Verdict.{Verdict, accepted, refused, verdictOf}
-use Rattle.tree.specs.Tests.{verdict, sheetTests}
+use Rattle.tree.specs.Tests.{verdict, sheetTests, noCommonAncestor}
 use Rattle.tree.specs.Preorder.{preorderNumber, size, tour}
 use Rattle.tree.specs.Buffers.{none, labelCells, tourCells, liftCells}
 use Rattle.tree.specs.Labels.{inlabel, ascendant, head, labelTable}
@@ -96,4 +97,6 @@ cases =
     ∷ checked (1 ∷ 0 ∷ []) (Refused NoRoot) 5 0
     ∷ checked (0 ∷ 1 ∷ []) (Refused (SecondRoot 1)) 6 1
     ∷ checked (0 ∷ 2 ∷ 1 ∷ []) (Refused (Cycle 1)) 7 1
+    -- row 11, "listed parts have no common carrier", at 0: of two parts that both name themselves
+    ∷ record { given = shown (verdict (noCommonAncestor (0 ∷ 1 ∷ []) (0 ∷ 1 ∷ []) ∷ [])); stated = 11 ∷ 0 ∷ [] }
     ∷ []

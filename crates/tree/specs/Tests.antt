@@ -7,75 +7,83 @@ use mathlib.Core.Bool.{Bool, cond, not}
 use mathlib.Core.List.{List, [], _∷_, _++_}
 use lib.Dec.{leb, ltb, eqb}
 use lib.ListN.{length, getD}
+use Rattle.tree.specs.declared.Refusal.{Refusal}
+use Rattle.tree.specs.declared.Refusal.the-variants.{Empty, TooLarge, WrongLength, ParentOutOfRange, NoRoot, SecondRoot, Cycle, StaleTable, NothingListed, NodeOutOfRange, NoCommonAncestor}
 use Rattle.tree.specs.Scan.{least}
 use Rattle.tree.specs.Tree.{parent, climb, isRoot, nextRoot, rootOf}
 use Rattle.tree.specs.Lca.{isCommon}
-use Rattle.tree.specs.Verdict.{Verdict, accepted, refused}
+use Rattle.tree.specs.Verdict.{Verdict, accepted, refused, numberOf, placeOf}
 use Rattle.tree.specs.Tables.{Lent, own, endToEnd}
 use Rattle.tree.specs.Sections.{differ}
 
--- a row of the table: its number, whether the call's input passes, and the place of the refusal where it does not
+-- a row of the table: whether the call's input passes, and the refusal where it does not
 pub record Test : Type 0 where
-  pub number : ℕ
   pub passes : Bool
-  pub place : ℕ
+  pub why : Refusal
+
+-- its number and the refusal's place, as `numbered` has them
+abbrev pub testNumber : Test → ℕ
+testNumber t = numberOf (t .why)
+
+abbrev pub testPlace : Test → ℕ
+testPlace t = placeOf (t .why)
 
 -- "Tests run in this order .. and each is given only on its condition": the first that fails refuses
 unfoldable pub verdict : List Test → Verdict
 verdict [] = accepted
-verdict (t ∷ ts) = let later = verdict ts in cond (t .passes) later (refused (t .number) (t .place))
+verdict (t ∷ ts) = let later = verdict ts in cond (t .passes) later (refused (testNumber t) (testPlace t))
 
--- a test that fails where some number below n is bad, at the lowest
-abbrev pub lowestBad : ℕ → (ℕ → Bool) → ℕ → Test
-lowestBad number bad n = record { number = number; passes = eqb (least bad n) n; place = least bad n }
+-- a test that fails where some number below n is bad, with the refusal at the lowest
+abbrev pub lowestBad : (ℕ → Refusal) → (ℕ → Bool) → ℕ → Test
+lowestBad refusalAt bad n = record { passes = eqb (least bad n) n; why = refusalAt (least bad n) }
 
 -- 1 "bare": n is 0
 unfoldable pub empty : ℕ → Test
-empty n = record { number = 1; passes = ltb 0 n; place = 0 }
+empty n = record { passes = ltb 0 n; why = Empty }
 
 -- 2 "oversize": n above the limit
 unfoldable pub tooLarge : ℕ → ℕ → Test
-tooLarge limit n = record { number = 2; passes = leb n limit; place = 0 }
+tooLarge limit n = record { passes = leb n limit; why = TooLarge }
 
 -- 3 "misfit": a lent buffer hasn't its exact length, at the lowest buffer. 0 says that all fit
 unfoldable pub wrongLength : ℕ → Test
-wrongLength buffer = record { number = 3; passes = eqb buffer 0; place = buffer }
+wrongLength buffer = record { passes = eqb buffer 0; why = WrongLength buffer }
 
 -- 4 "off sheet": an entry is n or more, at the lowest such part
 unfoldable pub parentOutOfRange : List ℕ → Test
-parentOutOfRange s = lowestBad 4 (λ v. leb (length s) (parent s v)) (length s)
+parentOutOfRange s = lowestBad ParentOutOfRange (λ v. leb (length s) (parent s v)) (length s)
 
 -- 5 "rootless": no part names itself
 unfoldable pub noRoot : List ℕ → Test
-noRoot s = record { number = 5; passes = ltb (rootOf s) (length s); place = 0 }
+noRoot s = record { passes = ltb (rootOf s) (length s); why = NoRoot }
 
 -- 6 "second root": two or more name themselves, at the second lowest of them
 unfoldable pub secondRoot : List ℕ → Test
 secondRoot s =
     let second = nextRoot s (suc (rootOf s)) in
-    record { number = 6; passes = leb (length s) second; place = second }
+    record { passes = leb (length s) second; why = SecondRoot second }
 
 -- 7 "loop": a part's climb never meets the root, at the lowest such part. A climb that has not met it after n steps never does
 unfoldable pub cycle : List ℕ → Test
-cycle s = lowestBad 7 (λ v. not (isRoot s (climb s (length s) v))) (length s)
+cycle s = lowestBad Cycle (λ v. not (isRoot s (climb s (length s) v))) (length s)
 
 -- 8 "stale": a cell of a lent table isn't this sheet's, at the first such cell from 0, the lent tables end to end
 unfoldable pub staleTable : Lent → Test
 staleTable t =
     let mine = endToEnd (own (t .parents)) in
-    lowestBad 8 (differ (endToEnd t) mine) (length mine)
+    lowestBad StaleTable (differ (endToEnd t) mine) (length mine)
 
 -- 9 "nothing listed": no pair or part given
 unfoldable pub nothingListed : List ℕ → Test
-nothingListed question = record { number = 9; passes = ltb 0 (length question); place = 0 }
+nothingListed question = record { passes = ltb 0 (length question); why = NothingListed }
 
 -- 10 "no such part": a listed number is n or more, at the first such position, from 0
 unfoldable pub nodeOutOfRange : List ℕ → List ℕ → Test
-nodeOutOfRange s question = lowestBad 10 (λ i. leb (length s) (getD question i 0)) (length question)
+nodeOutOfRange s question = lowestBad NodeOutOfRange (λ i. leb (length s) (getD question i 0)) (length question)
 
 -- 11 "adrift": listed parts have no common carrier
 unfoldable pub noCommonAncestor : List ℕ → List ℕ → Test
-noCommonAncestor s question = record { number = 11; passes = ltb (least (isCommon s question) (length s)) (length s); place = 0 }
+noCommonAncestor s question = record { passes = ltb (least (isCommon s question) (length s)) (length s); why = NoCommonAncestor }
 
 -- "n is 1 to 16,384 in the library"
 abbrev pub limit : ℕ

@@ -7,7 +7,7 @@ use borrow.Author.Needs.{needs}
 use lib.ListN.{length}
 use Rattle.tree.specs.Tree.{nextRoot, rootOf}
 use Rattle.tree.specs.Verdict.{refused}
-use Rattle.tree.specs.Tests.{parentOutOfRange}
+use Rattle.tree.specs.Tests.{testPlace, parentOutOfRange}
 use Rattle.tree.proofs.Places.{out-of-range-place}
 use Rattle.tree.proofs.Roots.{root-of-next}
 use Rattle.tree.proofs.Answers.{refused-out-of-range, refused-no-root, refused-second-root, refused-cycle, accepted-tree-tests}
@@ -21,11 +21,11 @@ abbrev sheet : tie.Start → List ℕ
 sheet c = c .args .parents .now
 
 -- the place of its lowest entry that is no part
-off : (c : tie.After-first-from) → c .first-from .result ≡ parentOutOfRange (sheet (c .before .before .before)) .place
+off : (c : tie.After-first-from) → c .first-from .result ≡ testPlace (parentOutOfRange (sheet (c .before .before .before)))
 off c = out-of-range-place (sheet (c .before .before .before)) _ (c .first-from .ensures)
 
 -- no entry is off it
-entries : (c : tie.Else1) → length (sheet (c .before .before .before .before)) ≤ parentOutOfRange (sheet (c .before .before .before .before)) .place
+entries : (c : tie.Else1) → length (sheet (c .before .before .before .before)) ≤ testPlace (parentOutOfRange (sheet (c .before .before .before .before)))
 entries c = rw (off (c .before)) at (c .if1 .left)
 
 -- root is its lowest part that names itself
