@@ -1,7 +1,7 @@
 -- The sums by which a lent label table's PREORDER and SIZE are told to be the sheet's own.
 -- Assumes nothing.
-use Prim.Native.Nat.{ℕ, zero, suc, _+_, _*_, _%_, _≤_, _<_, zero-le}
-use native.Mathlib.Nat.{zero-add, zero-mul, one-mul, mod-eq-of-lt, mod-add-mod, le-suc}
+use Prim.Native.Nat.{ℕ, zero, suc, _+_, _*_, _≤_, _<_, zero-le}
+use native.Mathlib.Nat.{zero-add, zero-mul, one-mul, le-suc}
 use native.Mathlib.Omega.{arith}
 use mathlib.Core.Path.{_≡_, refl, sym, ap, _∙_}
 use mathlib.Core.Logic.{_≢_}
@@ -13,42 +13,27 @@ use Rattle.tree.specs.Tree.{Tree, parent, level, rootOf}
 use Rattle.tree.specs.Preorder.{isChild, childSum, preorderNumber, size}
 use Rattle.tree.specs.Labels.{labelTable}
 use Rattle.tree.specs.Sections.{Same}
-use Rattle.tree.specs.Tests.{limit}
 use Rattle.tree.proofs.Scans.{by-equal, by-test, by-order}
 use Rattle.tree.proofs.Trees.{level-below, level-parent, from-root, root-found}
 use Rattle.tree.proofs.PreorderList.{Child, child-test, test-child}
-use Rattle.tree.proofs.Sums.{sum-child, sum-gap, sum-zero, sum-same, sum-within}
-use Rattle.tree.proofs.Sizes.{size-sum, preorder-pos, preorder-root, preorder-child}
-use Rattle.labels.proofs.Labelled.{interval-ends}
+use Rattle.tree.proofs.Sums.{sum-child, sum-gap, sum-zero, sum-same}
+use Rattle.tree.proofs.Sizes.{size-sum, preorder-root, preorder-child}
 use Rattle.tree.proofs.Differences.{store-either, same-join}
 use Rattle.tree.proofs.Columns.{column-same}
 use Rattle.cells.specs.Cells.{Filled, Agree}
 use Rattle.labels.specs.Sums.{sizeIn, sumIn, Sums, Numbered}
 
--- a sum grows with what is summed over
-sum-grows : (s : List ℕ) (p : ℕ) (f : ℕ → ℕ) (i j : ℕ) → i ≤ j → childSum s p f i ≤ childSum s p f j
-sum-grows s p f i zero h = let e : i ≡ 0 = omega arith in rw e (omega arith)
-sum-grows s p f i (suc j) h =
-    let earlier = sum-grows s p f i j in
-    by-equal i (suc j) (λ e. rw e (omega arith))
-    (λ e.
-    let b = earlier (omega arith) in
-    by-test (isChild s p j)
-    (λ c. let more = sum-child s p f j c in omega arith)
-    (λ c. let more = sum-gap s p f j (suc j) (le-suc j) (λ k a l. let here : k ≡ j = omega arith in rw here c) in omega arith))
-
 -- ---- the sums, node by node
 
 pub sums-none : {s label before after : List ℕ} → Filled before 0 (length s) 1 after → Sums s label after 0
 sums-none {s} {label} f = record {
-  sum = λ p h.
-      f .here p zero-le (omega arith) ∙ sym (ap (λ (k : ℕ). (1 + k) % 65536) (sum-zero s p (sizeIn s label)));
+  sum = λ p h. f .here p zero-le (omega arith) ∙ sym (ap (λ (k : ℕ). 1 + k) (sum-zero s p (sizeIn s label)));
 }
 
 -- the sum over children stays where i is no child of p
 sum-stays : (s label : List ℕ) (p i : ℕ) → isChild s p i ≡ false → sumIn s label p (suc i) ≡ sumIn s label p i
 sum-stays s label p i e =
-    ap (λ (k : ℕ). (1 + k) % 65536)
+    ap (λ (k : ℕ). 1 + k)
     (sum-gap s p (sizeIn s label) i (suc i) (le-suc i) (λ c a b. let here : c ≡ i = omega arith in rw here e))
 
 -- .. as the root is of none
@@ -59,7 +44,7 @@ sums-root {s} {label} {work} {r} e w = record { sum = λ p h. w .sum p h ∙ sym
     no-child p = by-test (isChild s p r) (λ c. let k = test-child s p r c in absurd (k .other (sym e ∙ k .of))) (λ c. c)
 
 pub sums-more : {s label work : List ℕ} {v : ℕ} → length s ≤ length work → parent s v < length s → parent s v ≢ v → Sums s label work v
-    → Sums s label (set work (parent s v) ((getD work (parent s v) 0 + sizeIn s label v) % 65536)) (suc v)
+    → Sums s label (set work (parent s v) (getD work (parent s v) 0 + sizeIn s label v)) (suc v)
 sums-more {s} {label} {work} {v} room inside q w = record {
   sum = λ p h.
       store-either work (parent s v) _ p (sumIn s label p (suc v)) (omega arith)
@@ -67,13 +52,12 @@ sums-more {s} {label} {work} {v} room inside q w = record {
       (λ e. w .sum p h ∙ sym (sum-stays s label p v (by-test (isChild s p v) (λ c. absurd (e (sym (test-child s p v c .of)))) (λ c. c))));
 }
   where
-    grown : (getD work (parent s v) 0 + sizeIn s label v) % 65536 ≡ sumIn s label (parent s v) (suc v)
+    grown : getD work (parent s v) 0 + sizeIn s label v ≡ sumIn s label (parent s v) (suc v)
     grown =
         let u = parent s v in
         let f = sizeIn s label in
         let step : childSum s u f (suc v) ≡ childSum s u f v + f v = sum-child s u f v (child-test (record { of = refl; other = λ e. q (sym e) })) in
-        let all : 1 + childSum s u f v + f v ≡ 1 + childSum s u f (suc v) = omega arith in
-        ap (λ (k : ℕ). (k + f v) % 65536) (w .sum u inside) ∙ mod-add-mod (1 + childSum s u f v) 65536 (f v) ∙ ap (λ (k : ℕ). k % 65536) all
+        omega (arith, w .sum u inside)
 
 -- PREORDER follows them, one node further
 pub numbered-none : (s label : List ℕ) (first : ℕ) → Numbered s label first first
@@ -85,19 +69,11 @@ numbered-more {s} {label} {first} {v} l e = record { number = λ u a b. by-equal
 
 -- ---- what they tell
 
-module _ {s : List ℕ} (t : Tree s) (small : length s ≤ limit) (label : List ℕ) where
-  -- the sum of SIZEs that are the sheet's own loses no bit
-  sum-own : (p i : ℕ) → p < length s → i ≤ length s → ((c : ℕ) → c < length s → Child s p c → sizeIn s label c ≡ size s c)
+module _ {s : List ℕ} (t : Tree s) (label : List ℕ) where
+  -- the sum where SIZEs are the sheet's own
+  sum-own : (p i : ℕ) → i ≤ length s → ((c : ℕ) → c < length s → Child s p c → sizeIn s label c ≡ size s c)
       → sumIn s label p i ≡ suc (childSum s p (size s) i)
-  sum-own p i h b own =
-      let same = sum-same s p (sizeIn s label) (size s) i (λ c below is. own c (omega arith) is) in
-      let whole = size-sum t p h in
-      let part : childSum s p (size s) i ≤ childSum s p (size s) (length s) = sum-grows s p (size s) i (length s) b in
-      let ends = interval-ends t h in
-      let pos = preorder-pos s p in
-      let fits : 1 + childSum s p (size s) i < 65536 = omega arith in
-      let one : 1 + childSum s p (size s) i ≡ suc (childSum s p (size s) i) = omega arith in
-      ap (λ (k : ℕ). (1 + k) % 65536) same ∙ mod-eq-of-lt fits ∙ one
+  sum-own p i b own = let same = sum-same s p (sizeIn s label) (size s) i (λ c below is. own c (omega arith) is) in omega arith
 
   -- where each SIZE is the sum over the children, it is the sheet's own: from the lowest level up
   sizes-up : ((v : ℕ) → v < length s → sizeIn s label v ≡ sumIn s label v (length s))
@@ -109,7 +85,7 @@ module _ {s : List ℕ} (t : Tree s) (small : length s ≤ limit) (label : List 
       let deeper = level-parent t c below (λ e. is .other (sym e ∙ is .of)) in
       let above : level s (parent s c) ≡ level s v = ap (level s) (is .of) in
       earlier c below (omega arith) in
-      each v h ∙ sum-own v (length s) h (omega arith) children ∙ sym (size-sum t v h)
+      each v h ∙ sum-own v (length s) (omega arith) children ∙ sym (size-sum t v h)
 
   -- where PREORDER follows the sums too, both columns are the sheet's own
   pub numbers-own : {r : ℕ} → r ≡ rootOf s → getD label r 0 ≡ 1 → Numbered s label 0 r → Numbered s label (suc r) (length s)
@@ -126,8 +102,7 @@ module _ {s : List ℕ} (t : Tree s) (small : length s ≤ limit) (label : List 
       from-root t (λ v. getD label v 0 ≡ preorderNumber s v)
       (ap (λ (k : ℕ). getD label k 0) root ∙ first ∙ sym (preorder-root t))
       (λ v h q above.
-      let inside = t .inside v h in
-      let sum = sum-own (parent s v) v inside (omega arith) (λ c below _. sizes c below) in
+      let sum = sum-own (parent s v) v (omega arith) (λ c below _. sizes c below) in
       let own = preorder-child t v h q in
       let said = step v h q in
       omega arith) in

@@ -1,6 +1,6 @@
 -- What a lent label table's PREORDER and SIZE say of a node, its parent and its siblings.
 -- Assumes nothing.
-use Prim.Native.Nat.{ℕ, _+_, _%_, _≤_, _<_}
+use Prim.Native.Nat.{ℕ, _+_, _≤_, _<_}
 use mathlib.Core.Path.{_≡_}
 use mathlib.Core.Logic.{_≢_}
 use mathlib.Core.List.{List}
@@ -14,9 +14,9 @@ use Rattle.tree.specs.Ready.{Ready}
 abbrev pub sizeIn : List ℕ → List ℕ → ℕ → ℕ
 sizeIn s label v = getD label (length s + v) 0
 
--- one more than the sum of these over the children of p below i, in 16 bits: a lent table may hold any numbers
+-- one more than the sum of these over the children of p below i
 abbrev pub sumIn : List ℕ → List ℕ → ℕ → ℕ → ℕ
-sumIn s label p i = (1 + childSum s p (sizeIn s label) i) % 65536
+sumIn s label p i = 1 + childSum s p (sizeIn s label) i
 
 -- the first n cells of work hold these sums
 pub record Sums (s label work : List ℕ) (i : ℕ) : Type 0 where

@@ -32,11 +32,12 @@ pub(crate) fn hold(parents: &[u16], root: usize, label: &[u16], work: &mut [u16]
 }
 
 // Adds the SIZE of each node from `first` on, up to `end`, to its parent's sum, in the first n cells of work. The bits in which any PREORDER of theirs differs
-// from their parent's and the sum until then. The root is none of them.
+// from their parent's and the sum until then. The SIZEs of a sheet's own table add up to n at most: a sum that would pass n is not made, and ends it, with an
+// answer other than 0. The root is none of the nodes.
 fn add(parents: &[u16], label: &[u16], first: usize, end: usize, work: &mut [u16]) -> usize
     requires { ⌜ Adds (now parents) (now label) first end (now work) ⌝ }
-    ensures { λ r. ⌜ Sums (now (parents .entry)) (now (label .entry)) (now (work .exit)) end
-        × (r ≡ 0 → Numbered (now (parents .entry)) (now (label .entry)) first end) ⌝ }
+    ensures { λ r. ⌜ (r ≡ 0 → Sums (now (parents .entry)) (now (label .entry)) (now (work .exit)) end
+        × Numbered (now (parents .entry)) (now (label .entry)) first end) ⌝ }
 {
     let n = parents.len();
     let mut bits: usize = 0;
@@ -44,8 +45,12 @@ fn add(parents: &[u16], label: &[u16], first: usize, end: usize, work: &mut [u16
     while v < end {
         let p = parents[v] as usize;
         let sum = work[p] as usize;
+        let grown = sum + label[n + v] as usize;
+        if n < grown {
+            return 1;
+        }
         bits = bits | (label[v] as usize ^ (label[p] as usize + sum));
-        work[p] = ((sum + label[n + v] as usize) % 65536) as u16;
+        work[p] = grown as u16;
         v += 1;
     }
     bits

@@ -42,6 +42,23 @@ cells c =
       sums = c .before .loop .inv .2 ∙ s .pre .ready .room;
     }
 
+-- the node's parent
+abbrev parentOf : tie.After-shared-slice-known2 Inv-loop μ-loop → ℕ
+parentOf c = getD (c .before .before .before .before .before .args .parents .now) (c .before .before .before .before .loop .v) 0
+
+-- its sum and the node's SIZE, as they were read, have 16 bits
+record Read (label work : List ℕ) (n v p : ℕ) : Type 0 where
+  sum : getD work p 0 < 65536
+  size : getD label (n + v) 0 < 65536
+
+read : (c : tie.After-shared-slice-known2 Inv-loop μ-loop)
+    → let s = c .before .before .before .before .before .args in let l = c .before .before .before .before .loop in
+    Read (s .label .now) (l .work) (length (s .parents .now)) (l .v) (parentOf c)
+read c = record {
+  sum = omega (arith, c .before .slice-known .given (parentOf c));
+  size = omega (arith, c .shared-slice-known2 .given (length (c .before .before .before .before .before .args .parents .now) + c .before .before .before .before .loop .v));
+}
+
 loop-holds : tie.Need-loop-holds Inv-loop μ-loop
 loop-holds c = (search needs, c .pre .ordered, search needs, c .pre .sums, λ e. numbered-none _ _ _)
 
@@ -63,55 +80,56 @@ slice-read-sum c = let d = cells (c .before .before) in omega arith
 cast-sum : tie.Need-cast-sum Inv-loop μ-loop
 cast-sum c = omega (arith, c .slice-known .given (getD (c .before .before .before .before .args .parents .now) (c .before .before .before .loop .v) 0))
 
+add-grown : tie.Need-add-grown Inv-loop μ-loop
+add-grown c = let d = cells (c .before .before) in omega arith
+
+mul-grown : tie.Need-mul-grown Inv-loop μ-loop
+mul-grown c = let d = cells (c .before .before) in omega arith
+
+shared-slice-read-grown : tie.Need-shared-slice-read-grown Inv-loop μ-loop
+shared-slice-read-grown c = let d = cells (c .before .before .before) in omega arith
+
+cast-grown : tie.Need-cast-grown Inv-loop μ-loop
+cast-grown c = let r = read c in omega arith
+
+add-grown-2 : tie.Need-add-grown-2 Inv-loop μ-loop
+add-grown-2 c = let r = read c in omega arith
+
+same-length : tie.Need-same-length Inv-loop μ-loop
+same-length c = search needs
+
+returns : tie.Need-returns Inv-loop μ-loop
+returns c = λ z. absurd (omega arith)
+
 mul-bits : tie.Need-mul-bits Inv-loop μ-loop
-mul-bits c = let d = cells (c .before .before) in omega arith
+mul-bits c = let d = cells (c .before .before .before .before) in omega arith
 
 shared-slice-read-bits : tie.Need-shared-slice-read-bits Inv-loop μ-loop
-shared-slice-read-bits c = let d = cells (c .before .before .before) in omega arith
+shared-slice-read-bits c = let d = cells (c .before .before .before .before .before) in omega arith
 
 cast-bits : tie.Need-cast-bits Inv-loop μ-loop
-cast-bits c = omega (arith, c .shared-slice-known2 .given (c .before .before .before .before .loop .v))
+cast-bits c = omega (arith, c .shared-slice-known3 .given (c .before .before .before .before .before .before .loop .v))
 
 mul-bits-2 : tie.Need-mul-bits-2 Inv-loop μ-loop
-mul-bits-2 c = let d = cells (c .before .before .before) in omega arith
+mul-bits-2 c = let d = cells (c .before .before .before .before .before) in omega arith
 
 shared-slice-read-bits-2 : tie.Need-shared-slice-read-bits-2 Inv-loop μ-loop
-shared-slice-read-bits-2 c = let d = cells (c .before .before .before .before) in omega arith
+shared-slice-read-bits-2 c = let d = cells (c .before .before .before .before .before .before) in omega arith
 
 cast-bits-2 : tie.Need-cast-bits-2 Inv-loop μ-loop
-cast-bits-2 c = omega (arith, c .shared-slice-known3 .given (getD (c .before .before .before .before .before .before .args .parents .now) (c .before .before .before .before .before .loop .v) 0))
+cast-bits-2 c = omega (arith, c .shared-slice-known4 .given (parentOf (c .before .before .before)))
 
 add-bits : tie.Need-add-bits Inv-loop μ-loop
-add-bits c =
-    let p = getD (c .before .before .before .before .before .before .args .parents .now) (c .before .before .before .before .before .loop .v) 0 in
-    omega (arith, c .shared-slice-known3 .given p, c .before .before .slice-known .given p)
-
-add-work : tie.Need-add-work Inv-loop μ-loop
-add-work c = let d = cells (c .before .before .before .before) in omega arith
-
-mul-work : tie.Need-mul-work Inv-loop μ-loop
-mul-work c = let d = cells (c .before .before .before .before) in omega arith
-
-shared-slice-read-work : tie.Need-shared-slice-read-work Inv-loop μ-loop
-shared-slice-read-work c = let d = cells (c .before .before .before .before .before) in omega arith
+add-bits c = let r = read (c .before .before .before) in omega (arith, c .shared-slice-known4 .given (parentOf (c .before .before .before)))
 
 cast-work : tie.Need-cast-work Inv-loop μ-loop
-cast-work c = omega (arith, c .shared-slice-known4 .given (length (c .before .before .before .before .before .before .before .args .parents .now) + c .before .before .before .before .before .before .loop .v))
+cast-work c = omega (arith, c .before .before .before .before .before .before .before .before .pre .ready .small)
 
-add-work-2 : tie.Need-add-work-2 Inv-loop μ-loop
-add-work-2 c =
-    let s = c .before .before .before .before .before .before .before .args in
-    let v = c .before .before .before .before .before .before .loop .v in
-    omega (arith, c .shared-slice-known4 .given (length (s .parents .now) + v), c .before .before .before .slice-known .given (getD (s .parents .now) v 0))
-
-cast-work-2 : tie.Need-cast-work-2 Inv-loop μ-loop
-cast-work-2 c = search needs
-
-mul-work-2 : tie.Need-mul-work-2 Inv-loop μ-loop
-mul-work-2 c = let d = cells (c .before .before .before .before .before) in omega arith
+mul-work : tie.Need-mul-work Inv-loop μ-loop
+mul-work c = let d = cells (c .before .before .before .before .before .before) in omega arith
 
 slice-write-work : tie.Need-slice-write-work Inv-loop μ-loop
-slice-write-work c = let d = cells (c .before .before .before .before .before) in omega arith
+slice-write-work c = let d = cells (c .before .before .before .before .before .before) in omega arith
 
 add-v : tie.Need-add-v Inv-loop μ-loop
 add-v c = search needs
@@ -122,28 +140,29 @@ loop-less c = search needs
 loop-again : tie.Need-loop-again Inv-loop μ-loop
 unfolding parent
 loop-again c =
-    let c5 = c .before .before .before .before .before in
-    let l = c5 .before .loop in
-    let s = c5 .before .before in
-    let d = cells c5 in
-    let child = s .pre .child (l .v) (l .inv .0) (c5 .loop-test .taken) in (
+    let d = c .before .before .before .before .before .before in
+    let l = d .before .loop in
+    let s = d .before .before in
+    let f = cells d in
+    let child = s .pre .child (l .v) (l .inv .0) (d .loop-test .taken) in (
       omega arith,
       omega arith,
       simp length-set (l .inv .2),
-      rw add-one (sums-more (omega arith) (d .above) child (l .inv .3)),
+      rw add-one (sums-more (omega arith) (f .above) child (l .inv .3)),
       λ z.
           let none = no-bits _ _ _ z in
-          rw add-one (numbered-more (l .inv .4 (none .0)) (none .1 ∙ ap (λ k. getD (s .args .label .now) (getD (s .args .parents .now) (l .v) 0) 0 + k) (l .inv .3 .sum _ (d .above)))),
+          rw add-one (numbered-more (l .inv .4 (none .0)) (none .1 ∙ ap (λ k. getD (s .args .label .now) (getD (s .args .parents .now) (l .v) 0) 0 + k) (l .inv .3 .sum _ (f .above)))),
     )
 
-same-length : tie.Need-same-length Inv-loop μ-loop
-same-length c = search needs
+same-length-2 : tie.Need-same-length-2 Inv-loop μ-loop
+same-length-2 c = search needs
 
-returns : tie.Need-returns Inv-loop μ-loop
-returns c =
+returns-2 : tie.Need-returns-2 Inv-loop μ-loop
+returns-2 c =
+    λ z.
     let l = c .before .loop in
     let e : l .v ≡ c .before .before .args .end = omega arith in
-    (rw e at (l .inv .3), λ z. rw e at (l .inv .4 z))
+    (rw e at (l .inv .3), rw e at (l .inv .4 z))
 
 pub add-spec : {M : Type 1} → statement M
 add-spec =
@@ -158,6 +177,13 @@ add-spec =
     mul-sum
     slice-read-sum
     cast-sum
+    add-grown
+    mul-grown
+    shared-slice-read-grown
+    cast-grown
+    add-grown-2
+    same-length
+    returns
     mul-bits
     shared-slice-read-bits
     cast-bits
@@ -165,16 +191,11 @@ add-spec =
     shared-slice-read-bits-2
     cast-bits-2
     add-bits
-    add-work
-    mul-work
-    shared-slice-read-work
     cast-work
-    add-work-2
-    cast-work-2
-    mul-work-2
+    mul-work
     slice-write-work
     add-v
     loop-less
     loop-again
-    same-length
-    returns)
+    same-length-2
+    returns-2)

@@ -54,7 +54,7 @@ add-requires-2 c κs =
       ordered = omega (arith, r .node);
       most = omega arith;
       child = λ v p b. r .only v b (λ e. absurd (omega arith));
-      sums = rw add-one (sums-root (r .itself) (a .ensures .0));
+      sums = rw add-one (sums-root (r .itself) (a .ensures (c .before .if1 .left) .0));
     }
 
 same-length-2 : tie.Need-same-length-2
@@ -100,11 +100,11 @@ returns-4 c =
     let s = c .before .before .before .before .before .before .before .before .before .before .before .before .before .before .before .before .before .before .before .before .before in
     let c8 = c .before .before .before .before .before .before .before .before in
     let c4 = c .before .before .before .before in
-    let high = c4 .before .before .before .add2 .ensures in
+    let high = c4 .before .before .before .add2 .ensures (c4 .if2 .left) in
     let g = c .agree .ensures in
     let all : c .agree .result ≡ length (s .args .parents .now) = eqb-true _ _ e in
-    numbers-own (s .pre .0 .tree) (s .pre .0 .small) (s .args .label .now) (s .pre .1) (c .before .before .if3 .left)
-    (c8 .before .before .before .before .add .ensures .1 (c8 .before .if1 .left)) (rw add-one at (high .1 (c4 .if2 .left)))
+    numbers-own (s .pre .0 .tree) (s .args .label .now) (s .pre .1) (c .before .before .if3 .left)
+    (c8 .before .before .before .before .add .ensures (c8 .before .if1 .left) .1) (rw add-one at (high .1))
     (λ v h. (rw zero-add at (g .same .cell v (omega arith))) ∙ high .0 .sum v h)
 
 pub hold-spec : {M : Type 1} → statement M
