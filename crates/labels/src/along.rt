@@ -66,12 +66,13 @@ fn ascend(above: u16, inlabel: u16, upper: u16) -> u16
 pub(crate) fn added(inlabel: u16, upper: u16) -> u16
     ensures { λ r. ⌜ r ≡ cond (eqb inlabel upper) 0 (lowestOne inlabel) ⌝ }
 {
-    bits::lowest_one(inlabel) * differ(inlabel, upper)
+    bits::lowest_one(inlabel) & differ_mask(inlabel, upper)
 }
 
-// 1 where a and b differ, 0 where they are equal: by a shift, since a branch on it would be guessed wrong at many nodes.
-fn differ(a: u16, b: u16) -> u16
-    ensures { λ r. ⌜ r ≡ cond (eqb a b) 0 1 ⌝ }
+// All 16 bits where a and b differ, none where they are equal: by shifts, since a branch on it would be guessed wrong at many nodes.
+fn differ_mask(a: u16, b: u16) -> u16
+    ensures { λ r. ⌜ r ≡ cond (eqb a b) 0 65535 ⌝ }
 {
-    1 - ((65536 - bits::xor(a, b) as u32) >> 16) as u16
+    let one = (bits::xor(a, b) as u32 + 65535) >> 16;
+    ((one << 16) - one) as u16
 }
