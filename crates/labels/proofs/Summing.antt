@@ -20,7 +20,7 @@ use Rattle.tree.proofs.Sums.{sum-child, sum-gap, sum-zero, sum-same}
 use Rattle.tree.proofs.Sizes.{size-sum, preorder-root, preorder-child}
 use Rattle.tree.proofs.Differences.{store-either, same-join}
 use Rattle.tree.proofs.Columns.{column-same}
-use Rattle.cells.specs.Cells.{Filled, Agree}
+use Rattle.cells.specs.Cells.{Filled}
 use Rattle.labels.specs.Sums.{sizeIn, sumIn, Sums, Numbered}
 
 -- ---- the sums, node by node

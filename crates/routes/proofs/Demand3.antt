@@ -10,7 +10,6 @@ use lib.ListN.{length, getD}
 use lib.Seq.{ext-getD}
 use Rattle.tree.specs.declared.Outcome.the-variants.{Accepted}
 use Rattle.tree.specs.declared.Traced.the-variants.{Lifts}
-use Rattle.tree.specs.Scan.{position}
 use Rattle.tree.specs.Tree.{Tree}
 use Rattle.tree.specs.Tests as tests
 use Rattle.tree.specs.Buffers.{trailCells}
@@ -19,17 +18,16 @@ use Rattle.tree.specs.Sharing.{SameParts, SharedOut, members, firstInPreorder, 
 use Rattle.tree.specs.Tables.{own}
 use Rattle.tree.specs.Routes.{byLabels, byTour}
 use Rattle.tree.specs.Trail.{trail, byLifts, lifts, trailBuffer, liftCount}
-use Rattle.tree.proofs.Scans.{position-here}
-use Rattle.tree.proofs.Orders.{member-at, member-position}
-use Rattle.tree.proofs.Climbs.{ancestor-inside}
+use Rattle.tree.proofs.Orders.{member-at}
 use Rattle.tree.proofs.Lcas.{lca-found, lca-only, pair-found}
-use Rattle.tree.proofs.Lists.{same-lca, ends-listed, ends-lca, members-some, members-listed, shared-lca}
+use Rattle.tree.proofs.Lists.{same-lca, ends-listed, ends-lca, shared-lca}
 use Rattle.tree.proofs.Acceptance.{accepted-tree}
 use Rattle.tree.proofs.ByLabels.{labels-lca}
 use Rattle.tree.proofs.ByLifts.{lifts-lca}
 use Rattle.tree.proofs.Claims.{rules-agree, trail-rows}
 use Rattle.routes.specs.Pairs.{pairAt, pairs, eachPair}
 use Rattle.routes.specs.Lends.{Some, Lends}
+use Rattle.routes.proofs.Named.{other-some, group-some, carriers-some}
 use Rattle.routes.proofs.Giving.{each-pair-length, each-pair-cell}
 use Rattle.routes.proofs.Runs.{asked, answers, LabelsRun, TourRun, LiftsRun, ListRun, TrailRun, traced, rowsBefore, rowsAfter, carrierCell}
 use Rattle.routes.proofs.Granted.{pairs-granted, list-granted, trail-granted}
@@ -129,46 +127,24 @@ module _ (s : List ℕ) (accepts : tests.Accepted s) (runs : Runs s) where
   right : runs .y < length s
   right = runs .some-pair .parts _ (List·Memᴰ·tail (List·Memᴰ·head refl))
 
-  -- another list names one or more parts too
-  other-some : Some s (runs .other)
-  other-some =
-      let (first, _) = ends-listed s (runs .listed) (runs .some-listed .listed) in
-      record {
-        listed = omega (arith, member-position _ _ (runs .same-parts _ .0 first));
-        parts = λ v m. runs .some-listed .parts v (runs .same-parts v .1 m);
-      }
+  -- the other list, and each group, name one or more parts too
+  others : Some s (runs .other)
+  others = other-some (runs .some-listed) (runs .same-parts)
 
-  -- so does each group
-  group-some : (g : ℕ) → g < runs .groups → Some s (members (runs .listed) (runs .group) g)
-  group-some g h = record {
-    listed = members-some _ _ _ (runs .shared) g h;
-    parts = λ v m. runs .some-listed .parts v (members-listed _ _ g v m);
-  }
+  grouped : (g : ℕ) → g < runs .groups → Some s (members (runs .listed) (runs .group) g)
+  grouped = group-some (runs .some-listed) (runs .shared)
 
   -- each group's run gives its carrier
   group-lca : (g : ℕ) → g < runs .groups → Lca s (members (runs .listed) (runs .group) g) (getD (runs .carriers) g 0)
   group-lca g h =
-      let given = list-granted s accepts (group-some g h) (runs .each-lent g h) (runs .each-group g h .kept) .1 in
+      let given = list-granted s accepts (grouped g h) (runs .each-lent g h) (runs .each-group g h .kept) .1 in
       let is : getD (runs .carriers) g 0 ≡ lca s (members (runs .listed) (runs .group) g) = runs .as-given g h ∙ ap (λ (l : List ℕ). getD l 0 0) given in
-      let some = group-some g h in
+      let some = grouped g h in
       subst (Lca s _) (sym is) (lca-found tree _ (some .listed) (some .parts))
 
   -- and the carriers are parts
-  carriers-some : Some s (runs .carriers)
-  carriers-some =
-      let long = runs .as-many in
-      let first : 0 < length (runs .listed) = runs .some-listed .listed in
-      let given = runs .shared .given 0 first in
-      record {
-        listed = omega arith;
-        parts = λ v m.
-            let at = position (runs .carriers) v in
-            let h = member-position (runs .carriers) v m in
-            let some = group-some at (omega arith) in
-            let member = member-at _ 0 (some .listed) in
-            subst (λ (w : ℕ). w < length s) (position-here (runs .carriers) v h)
-            (ancestor-inside (tree .inside) (some .parts _ member) (group-lca at (omega arith) .common _ member));
-      }
+  carriers : Some s (runs .carriers)
+  carriers = carriers-some (runs .some-listed) (runs .shared) tree (runs .as-many) group-lca
 
   -- a list that has the carrier of the runs' list is answered alike
   same-carrier : {xs : List ℕ} → Some s xs → Lca s (runs .listed) (lca s xs) → lca s xs ∷ [] ≡ lca s (runs .listed) ∷ []
@@ -191,8 +167,8 @@ module _ (s : List ℕ) (accepts : tests.Accepted s) (runs : Runs s) where
       let (tour-yes, tour) = pairs-granted s accepts {rule = byTour} {a = asked (runs .tour)} (runs .some-pairs) (runs .whole-pairs) (runs .tour-lent) (runs .tour .kept) in
       let (lifts-yes, lifted) = pairs-granted s accepts {rule = byLifts} {a = asked (runs .lifts)} (runs .some-pairs) (runs .whole-pairs) (runs .lifts-lent) (runs .lifts .kept) in
       let (list-yes, list) = list-granted s accepts {a = asked (runs .list)} some (runs .list-lent) (runs .list .kept) in
-      let (other-yes, other) = list-granted s accepts {a = asked (runs .other-list)} other-some (runs .other-lent) (runs .other-list .kept) in
-      let (groups-yes, groups) = list-granted s accepts {a = asked (runs .of-groups)} carriers-some (runs .of-groups-lent) (runs .of-groups .kept) in
+      let (other-yes, other) = list-granted s accepts {a = asked (runs .other-list)} others (runs .other-lent) (runs .other-list .kept) in
+      let (groups-yes, groups) = list-granted s accepts {a = asked (runs .of-groups)} carriers (runs .of-groups-lent) (runs .of-groups .kept) in
       let (count, carrier, rows) = trail-granted s accepts {a = traced (runs .trail-of)} (runs .some-pair) (runs .trail-lent) (runs .trail-cells) (runs .trail-of .kept) in
       let found = lca-found tree (runs .listed) (some .listed) (some .parts) in
       let is : getD (answers (runs .list)) 0 0 ≡ lca s (runs .listed) = ap (λ (l : List ℕ). getD l 0 0) list in
@@ -202,7 +178,7 @@ module _ (s : List ℕ) (accepts : tests.Accepted s) (runs : Runs s) where
         lifts-accepted = lifts-yes;
         list-accepted = list-yes;
         other-accepted = other-yes;
-        groups-accepted = λ g h. list-granted s accepts (group-some g h) (runs .each-lent g h) (runs .each-group g h .kept) .0;
+        groups-accepted = λ g h. list-granted s accepts (grouped g h) (runs .each-lent g h) (runs .each-group g h .kept) .0;
         of-groups-accepted = groups-yes;
         labels-as-tour =
             labels ∙ same-answers (byLabels (own s)) (byTour (own s)) (runs .some-pairs) (λ x y hx hy. rules x y hx hy .0 ∙ sym (rules x y hx hy .1)) ∙ sym tour;
@@ -217,10 +193,10 @@ module _ (s : List ℕ) (accepts : tests.Accepted s) (runs : Runs s) where
         of-list = subst (Lca s _) (sym is) found;
         first-and-last = subst (Lca s _) (sym is) ends-carrier-is;
         of-other =
-            other ∙ same-carrier other-some (same-lca (λ v. (runs .same-parts v .1, runs .same-parts v .0)) (lca-found tree _ (other-some .listed) (other-some .parts))) ∙ sym list;
+            other ∙ same-carrier others (same-lca (λ v. (runs .same-parts v .1, runs .same-parts v .0)) (lca-found tree _ (others .listed) (others .parts))) ∙ sym list;
         of-carriers =
             groups
-            ∙ same-carrier carriers-some (shared-lca (runs .shared) (runs .as-many) group-lca (lca-found tree _ (carriers-some .listed) (carriers-some .parts)))
+            ∙ same-carrier carriers (shared-lca (runs .shared) (runs .as-many) group-lca (lca-found tree _ (carriers .listed) (carriers .parts)))
             ∙ sym list;
         rows = rows;
         count = count;

@@ -62,7 +62,7 @@ module _ (s : List ℕ) (accepts : tests.Accepted s) where
       accepted-on (lentTests (own s) buffer) (questionTests s question) (accepted-on (sheetTests s buffer) (staleTable (own s) ∷ []) sheet ∙ fresh)
 
   -- and a question of its parts is accepted
-  granted : (work question : List ℕ) (further : ℕ) → length work ≡ workCells (length s) → further ≡ 0 → Some s question
+  pub granted : (work question : List ℕ) (further : ℕ) → length work ≡ workCells (length s) → further ≡ 0 → Some s question
       → askedVerdict (own s) work question further ≡ accepted
   granted work question further room fits some =
       question-decides work question further room fits ∙ parts-accepted s question (accepted-tree s accepts .0) (some .listed) (some .parts)

@@ -2,5 +2,7 @@
 pub mod Asking
 pub mod Giving
 pub mod Runs
+pub mod Named
 pub mod Granted
 pub mod Demand3
+pub mod RunsExist
