@@ -1,15 +1,21 @@
--- What a C caller derives from a call's contract: the number and the value from the inputs' verdict alone, and that 0 says accepted.
+-- What a C caller derives from a call's contract, of every call alike: the number and the value from the inputs alone, and that 0 says accepted. `read` is the
+-- library's own definition of the verdict and the count that an answer is. `lca_trail`, which counts, is written out at the end.
 -- Assumes nothing.
 use Prim.Native.Nat.{ℕ}
-use mathlib.Core.Path.{_≡_, refl, ap, _∙_}
+use mathlib.Core.Path.{_≡_, refl, sym, ap, _∙_}
 use mathlib.Core.Logic.{_≢_}
+use mathlib.Core.List.{List, [], _∷_}
 use native.Mathlib.Omega.{arith}
 use Rattle.tree.specs.declared.Refusal.{Refusal}
 use Rattle.tree.specs.declared.Refusal.the-variants.{Empty, TooLarge, WrongLength, ParentOutOfRange, NoRoot, SecondRoot, Cycle, StaleTable, NothingListed, NodeOutOfRange, NoCommonAncestor, MalformedLine}
-use Rattle.tree.specs.declared.Outcome.{Outcome}
-use Rattle.tree.specs.declared.Outcome.the-variants.{Accepted, Refused}
-use Rattle.tree.specs.Verdict.{Verdict, accepted, numberOf, verdictOf}
-use Rattle.lca.specs.Returned.{numberIn, valueIn, outcomeOf, Returned}
+use Rattle.tree.specs.Verdict.{Verdict, accepted, refused, numberOf, tracedOf}
+use Rattle.tree.specs.Tests.{Test, verdict}
+use Rattle.tree.specs.Buffers.{filled}
+use Rattle.tree.specs.Trail.{lifts}
+use Rattle.tree.proofs.Scans.{by-test}
+use Rattle.routes.specs.Pairs.{leftOf, rightOf}
+use Rattle.routes.specs.Answers.{Asked, trailVerdict, TrailGives}
+use Rattle.lca.specs.Returned.{numberIn, valueIn, Returned}
 
 -- no refusal has the number 0
 refused-number : (r : Refusal) → numberOf r ≢ 0
@@ -26,14 +32,42 @@ refused-number (NodeOutOfRange _) e = absurd (omega arith)
 refused-number NoCommonAncestor e = absurd (omega arith)
 refused-number (MalformedLine _) e = absurd (omega arith)
 
--- so 0 is returned for an accepted call alone
-pub zero-accepts : (r : Outcome) → numberIn (verdictOf r) ≡ 0 → verdictOf r ≡ accepted
-zero-accepts Accepted e = refl
-zero-accepts (Refused r) e = absurd (refused-number r e)
+-- so no list of tests refuses with it
+tests-number : (ts : List Test) → numberIn (verdict ts) ≡ 0 → verdict ts ≡ accepted
+unfolding verdict
+tests-number [] e = refl
+tests-number (t ∷ ts) e =
+    let rest = tests-number ts in
+    by-test (t .passes) (λ p. rw p (rest (rw p at e))) (λ p. absurd (refused-number (t .why) (rw p at e)))
 
--- where the contract says what the verdict is, the number and the value are that verdict's
-pub returned-verdict : {Gives : Outcome → Type 0} {number value : ℕ} (v : Verdict) → ((r : Outcome) → Gives r → verdictOf r ≡ v)
-    → Returned outcomeOf Gives number value → (number ≡ numberIn v) × (value ≡ valueIn v 0)
-returned-verdict v says c =
-    let e = says (c .answer) (c .gives) in
-    (c .number-is ∙ ap numberIn e, c .value-is ∙ ap (λ (x : Verdict). valueIn x 0) e)
+module _ {A : Type 0} {read : A → Verdict × ℕ} {Gives : A → Type 0} {number value : ℕ} (c : Returned read Gives number value) where
+  -- where the contract says what the verdict and the count are, from the inputs, the number and the value are theirs
+  pub returned-verdict : (v : Verdict) (count : ℕ) → ((r : A) → Gives r → (read r .0 ≡ v) × (read r .1 ≡ count))
+      → (number ≡ numberIn v) × (value ≡ valueIn v count)
+  returned-verdict v count says =
+      let (e, k) = says (c .answer) (c .gives) in
+      (c .number-is ∙ ap numberIn e, c .value-is ∙ ap (λ (x : Verdict). valueIn x (read (c .answer) .1)) e ∙ ap (valueIn v) k)
+
+  -- 0 is returned for an accepted call alone
+  pub zero-accepts : (ts : List Test) → ((r : A) → Gives r → read r .0 ≡ verdict ts) → number ≡ 0 → verdict ts ≡ accepted
+  zero-accepts ts says e = tests-number ts (sym (ap numberIn (says (c .answer) (c .gives))) ∙ sym (c .number-is) ∙ e)
+
+-- ---- `lca_trail`
+
+-- what an accepted call alone counts
+value-counted : (v : Verdict) (count : ℕ) → valueIn v (filled v count 0) ≡ valueIn v count
+unfolding filled
+value-counted accepted count = refl
+value-counted (refused number place) count = refl
+
+module _ {a : Asked} {rows work′ answer′ rows′ : List ℕ} {number value : ℕ} (c : Returned tracedOf (λ r. TrailGives a rows r work′ answer′ rows′) number value) where
+  -- the number is the tests', and the value the place of the refusal or the count of the pair's lifts
+  pub trail-returned : (number ≡ numberIn (trailVerdict a rows))
+      × (value ≡ valueIn (trailVerdict a rows) (lifts (a .lent) (leftOf (a .question) 0) (rightOf (a .question) 0)))
+  trail-returned =
+      let (is, counts) = returned-verdict c (trailVerdict a rows) _ (λ r g. (g .outcome, g .count)) in
+      (is, counts ∙ value-counted (trailVerdict a rows) _)
+
+  -- and 0 says that they accept
+  pub trail-zero : number ≡ 0 → trailVerdict a rows ≡ accepted
+  trail-zero = zero-accepts c _ (λ r g. g .outcome)
