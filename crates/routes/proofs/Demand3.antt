@@ -1,6 +1,6 @@
 -- Demand 3: one claim about what the calls give, over every accepted sheet with its own tables and buffers that fit, every question, list and
 -- sharing out at once, and all runs that keep the calls' own contracts. `Runs` has what is run, `Agree` what is claimed of it; `demand-3`, at the end, is the
--- claim.
+-- claim. That there are such runs of whatever is asked is shown in RunsExist.
 -- Assumes nothing.
 use Prim.Native.Nat.{ℕ, _+_, _*_, _%_, _<_}
 use native.Mathlib.Omega.{arith}

@@ -5,7 +5,6 @@ use Prim.Native.Nat.{ℕ, _%_, _<_}
 use native.Mathlib.Omega.{arith}
 use mathlib.Core.Path.{_≡_, refl, sym, ap, _∙_, subst}
 use mathlib.Core.List.{List, [], _∷_}
-use borrow.Author.Tests.{eq-eqb}
 use borrow.Fn.Kinds.{Out, Dens, endedOf}
 use contract.Lifetimes.{Lfts}
 use denote.Ref.{RefT}
@@ -29,7 +28,6 @@ use Rattle.tree.specs.Trail.{trail, byLifts, lifts, trailBuffer}
 use Rattle.tree.proofs.Rows.{length-tabulate, cell-tabulate}
 use Rattle.tree.proofs.Lcas.{lca-found, each-of-two}
 use Rattle.tree.proofs.Answers.{work-accepted}
-use Rattle.tree.proofs.Fits.{unfit-later, unfit-last}
 use Rattle.tree.proofs.Acceptance.{accepted-tree}
 use Rattle.routes.specs.declared.Route.{Route}
 use Rattle.routes.specs.declared.Route.the-variants.{Labels, Tour, Lifts}
@@ -38,7 +36,7 @@ use Rattle.routes.specs.Answers.{Admitted, Asked, pairsUnfit, PairsGive,
 use Rattle.routes.specs.Lends.{Some, Lends}
 use Rattle.routes.proofs.list.Kinds as list
 use Rattle.routes.proofs.Giving.{pairs-answered, list-answered, trail-answered}
-use Rattle.routes.proofs.Granted.{granted}
+use Rattle.routes.proofs.Granted.{pairs-fits, list-fits, trail-fits, granted}
 use Rattle.routes.proofs.Named.{pair-some, other-some, group-some, carriers-some}
 use Rattle.routes.proofs.Runs.{Run, ListRun, TrailRun}
 use Rattle.routes.proofs.Demand3.{Runs}
@@ -118,14 +116,13 @@ module _ (s : List ℕ) (accepts : tests.Accepted s) where
       → PairsGive (ruleOf route) (lent s question (pairs question)) Accepted (clear s) (eachPair (ruleOf route (own s)) question)
   pairs-kept route question some even =
       let a = lent s question (pairs question) in
-      let fits = unfit-later _ _ (eq-eqb _ _ even) ∙ unfit-last _ (eq-eqb _ _ (zeros-length (pairs question))) in
-      pairs-answered route a (admitted question (pairsUnfit a) fits some) refl refl
+      pairs-answered route a (admitted question (pairsUnfit a) (pairs-fits (lends s question (pairs question)) even) some) refl refl
 
   -- a list
   list-kept : (question : List ℕ) → Some s question → ListGives (lent s question 1) Accepted (clear s) (lca s question ∷ [])
   list-kept question some =
       let a = lent s question 1 in
-      list-answered a (admitted question (listUnfit a) (unfit-last _ (eq-eqb _ _ (zeros-length 1))) some) refl refl
+      list-answered a (admitted question (listUnfit a) (list-fits (lends s question 1)) some) refl refl
 
   abbrev list-run : (question : List ℕ) → Some s question → ListRun
   list-run question some = run-of s question 1 (lca s question ∷ []) (list-kept question some)
@@ -136,8 +133,9 @@ module _ (s : List ℕ) (accepts : tests.Accepted s) where
       (clear s) (byLifts (own s) x y ∷ []) (trailBuffer (trail (own s) x y))
   trail-kept x y some =
       let a = lent s (x ∷ y ∷ []) 1 in
-      let fits = unfit-later _ _ refl ∙ unfit-later _ _ (eq-eqb _ _ (zeros-length 1)) ∙ unfit-last _ (eq-eqb _ _ (zeros-length trailCells)) in
-      trail-answered a (zeros trailCells) (admitted (x ∷ y ∷ []) (trailUnfit a (zeros trailCells)) fits some) refl refl refl refl refl
+      let rows = zeros trailCells in
+      let fits = trail-fits rows (lends s (x ∷ y ∷ []) 1) (zeros-length trailCells) in
+      trail-answered a rows (admitted (x ∷ y ∷ []) (trailUnfit a rows) fits some) refl refl refl refl refl
 
   abbrev trail-run : (x y : ℕ) → Some s (x ∷ y ∷ []) → TrailRun
   trail-run x y some = record {

@@ -75,7 +75,8 @@ pub fn compare(
     admit_lent(parents, label, tour, lift, 0, work)
 }
 
-// The same for every call that is lent tables to read: tests 1 to 8, of a call whose lowest further buffer that does not fit is `further`, or 0.
+// The same for every call that is lent tables to read: tests 1 to 8, of a call whose lowest further buffer that does not fit is `further`, or 0. It is for the
+// calls of other crates to begin with, and no call of a user's: the further buffers are not lent to it, so that number is taken as it is given.
 pub fn admit_lent(
     parents: &[u16],
     label: &[u16],
