@@ -199,6 +199,25 @@ fn stale_cells_are_counted_through_the_tables() {
 }
 
 #[test]
+fn sizes_that_add_up_only_modulo_65536_are_stale() {
+    // The root's SIZE is one more than 3 and 3. 65,535 and 7 come to 65,542, of which 16 bits are 6.
+    let mut label = LABEL;
+    label[8] = 65_535;
+    label[9] = 7;
+    let result = Tree::from_tables(&SHEET, &label, &TOUR, &LIFT);
+    assert_eq!(result, Err(refusal(8, 8)));
+}
+
+#[test]
+fn the_largest_sizes_that_can_be_lent_are_stale() {
+    let star = Tree::new(&[0; 16_384]).unwrap();
+    let mut label = star.label().to_vec();
+    label[16_384 + 1..2 * 16_384].fill(65_535);
+    let result = Tree::from_tables(star.parents(), &label, star.tour(), star.lift());
+    assert_eq!(result, Err(refusal(8, 16_384 + 1)));
+}
+
+#[test]
 fn questions_that_cannot_be_answered() {
     let tree = Tree::new(&SHEET).unwrap();
     assert_eq!(tree.list(&[]), Err(refusal(9, 0)));

@@ -32,8 +32,8 @@ pub(crate) fn hold(parents: &[u16], root: usize, label: &[u16], work: &mut [u16]
 }
 
 // Adds the SIZE of each node from `first` on, up to `end`, to its parent's sum, in the first n cells of work. The bits in which any PREORDER of theirs differs
-// from their parent's and the sum until then. The SIZEs of a sheet's own table add up to n at most: a sum that would pass n is not made, and ends it, with an
-// answer other than 0. The root is none of the nodes.
+// from their parent's and the sum until then. SIZEs of a sheet's own table never add up to more than n: where lent ones do, the sum is not kept, and the
+// answer is 1. The root is none of the nodes.
 fn add(parents: &[u16], label: &[u16], first: usize, end: usize, work: &mut [u16]) -> usize
     requires { ⌜ Adds (now parents) (now label) first end (now work) ⌝ }
     ensures { λ r. ⌜ (r ≡ 0 → Sums (now (parents .entry)) (now (label .entry)) (now (work .exit)) end
