@@ -89,7 +89,7 @@ static uint32_t compare(const struct lent *t)
                        t->work, t->work_cells, &value);
 }
 
-/* The nanoseconds of one call, over as many as take some 250 microseconds. */
+/* The nanoseconds of one call, over as many as take some 300 microseconds or more. */
 static double timed(uint32_t (*call)(const struct lent *), const struct lent *t)
 {
     struct timespec from, to;

@@ -39,16 +39,16 @@ lends-is {s} {question} a l =
     ap (λ (t : Lent). record { lent = t; work = a .work; question = a .question; answer = a .answer }) (l .tables)
     ∙ ap (λ (q : List ℕ). record { lent = own s; work = a .work; question = q; answer = a .answer }) (l .asks)
 
--- the call's further buffers fit: of pairs, of a list, of a trail
-pub pairs-fits : {s question : List ℕ} {a : Asked} → Lends s question (pairs question) a → length question % 2 ≡ 0 → pairsUnfit (lending s question a) ≡ 0
-pairs-fits l even = unfit-later _ _ (eq-eqb _ _ even) ∙ unfit-last _ (eq-eqb _ _ (l .answer-fits))
+-- the further buffers of a call that is lent so fit: of pairs, of a list, of a trail
+pub pairs-lent-fit : {s question : List ℕ} {a : Asked} → Lends s question (pairs question) a → length question % 2 ≡ 0 → pairsUnfit (lending s question a) ≡ 0
+pairs-lent-fit l even = unfit-later _ _ (eq-eqb _ _ even) ∙ unfit-last _ (eq-eqb _ _ (l .answer-fits))
 
-pub list-fits : {s question : List ℕ} {a : Asked} → Lends s question 1 a → listUnfit (lending s question a) ≡ 0
-list-fits l = unfit-last _ (eq-eqb _ _ (l .answer-fits))
+pub list-lent-fit : {s question : List ℕ} {a : Asked} → Lends s question 1 a → listUnfit (lending s question a) ≡ 0
+list-lent-fit l = unfit-last _ (eq-eqb _ _ (l .answer-fits))
 
-pub trail-fits : {s : List ℕ} {x y : ℕ} {a : Asked} (rows : List ℕ) → Lends s (x ∷ y ∷ []) 1 a → length rows ≡ trailCells
+pub trail-lent-fit : {s : List ℕ} {x y : ℕ} {a : Asked} (rows : List ℕ) → Lends s (x ∷ y ∷ []) 1 a → length rows ≡ trailCells
     → trailUnfit (lending s (x ∷ y ∷ []) a) rows ≡ 0
-trail-fits rows l whole = unfit-later _ _ refl ∙ unfit-later _ _ (eq-eqb _ _ (l .answer-fits)) ∙ unfit-last _ (eq-eqb _ _ whole)
+trail-lent-fit rows l whole = unfit-later _ _ refl ∙ unfit-later _ _ (eq-eqb _ _ (l .answer-fits)) ∙ unfit-last _ (eq-eqb _ _ whole)
 
 -- a trail's answer that counts lifts is the case that says so
 lifts-case : (r : Traced) (count : ℕ) → tracedOf r .0 ≡ accepted → tracedOf r .1 ≡ count → r ≡ Lifts count
@@ -83,7 +83,7 @@ module _ (s : List ℕ) (accepts : tests.Accepted s) where
       → Lends s question (pairs question) a → PairsGive rule a r work′ answer′ → (r ≡ Accepted) × (answer′ ≡ eachPair (rule (own s)) question)
   pairs-granted {rule} {question} {a} {r} {work′} {answer′} some even l given =
       let g = subst (λ (b : Asked). PairsGive rule b r work′ answer′) (lends-is a l) given in
-      let yes = granted (a .work) question _ (l .work-fits) (pairs-fits l even) some in
+      let yes = granted (a .work) question _ (l .work-fits) (pairs-lent-fit l even) some in
       (accepted-case r (g .outcome ∙ yes), g .answer ∙ sym (filled-own _ _ _ yes))
 
   -- a list
@@ -91,7 +91,7 @@ module _ (s : List ℕ) (accepts : tests.Accepted s) where
       → ListGives a r work′ answer′ → (r ≡ Accepted) × (answer′ ≡ lca s question ∷ [])
   list-granted {question} {a} {r} {work′} {answer′} some l given =
       let g = subst (λ (b : Asked). ListGives b r work′ answer′) (lends-is a l) given in
-      let yes = granted (a .work) question _ (l .work-fits) (list-fits l) some in
+      let yes = granted (a .work) question _ (l .work-fits) (list-lent-fit l) some in
       (accepted-case r (g .outcome ∙ yes), g .answer ∙ sym (filled-own _ _ _ yes))
 
   -- a trail
@@ -100,5 +100,5 @@ module _ (s : List ℕ) (accepts : tests.Accepted s) where
       → (r ≡ Lifts (lifts (own s) x y)) × (answer′ ≡ byLifts (own s) x y ∷ []) × (rows′ ≡ trailBuffer (trail (own s) x y))
   trail-granted {x} {y} {a} {rows} {r} {work′} {answer′} {rows′} some l whole given =
       let g = subst (λ (b : Asked). TrailGives b rows r work′ answer′ rows′) (lends-is a l) given in
-      let yes = granted (a .work) (x ∷ y ∷ []) _ (l .work-fits) (trail-fits rows l whole) some in
+      let yes = granted (a .work) (x ∷ y ∷ []) _ (l .work-fits) (trail-lent-fit rows l whole) some in
       (lifts-case r _ (g .outcome ∙ yes) (g .count ∙ sym (filled-own _ _ _ yes)), g .answer ∙ sym (filled-own _ _ _ yes), g .trail ∙ sym (filled-own _ _ _ yes))

@@ -36,7 +36,7 @@ use Rattle.routes.specs.Answers.{Admitted, Asked, pairsUnfit, PairsGive,
 use Rattle.routes.specs.Lends.{Some, Lends}
 use Rattle.routes.proofs.list.Kinds as list
 use Rattle.routes.proofs.Giving.{pairs-answered, list-answered, trail-answered}
-use Rattle.routes.proofs.Granted.{pairs-fits, list-fits, trail-fits, granted}
+use Rattle.routes.proofs.Granted.{pairs-lent-fit, list-lent-fit, trail-lent-fit, granted}
 use Rattle.routes.proofs.Named.{pair-some, other-some, group-some, carriers-some}
 use Rattle.routes.proofs.Runs.{Run, ListRun, TrailRun}
 use Rattle.routes.proofs.Demand3.{Runs}
@@ -116,13 +116,13 @@ module _ (s : List ℕ) (accepts : tests.Accepted s) where
       → PairsGive (ruleOf route) (lent s question (pairs question)) Accepted (clear s) (eachPair (ruleOf route (own s)) question)
   pairs-kept route question some even =
       let a = lent s question (pairs question) in
-      pairs-answered route a (admitted question (pairsUnfit a) (pairs-fits (lends s question (pairs question)) even) some) refl refl
+      pairs-answered route a (admitted question (pairsUnfit a) (pairs-lent-fit (lends s question (pairs question)) even) some) refl refl
 
   -- a list
   list-kept : (question : List ℕ) → Some s question → ListGives (lent s question 1) Accepted (clear s) (lca s question ∷ [])
   list-kept question some =
       let a = lent s question 1 in
-      list-answered a (admitted question (listUnfit a) (list-fits (lends s question 1)) some) refl refl
+      list-answered a (admitted question (listUnfit a) (list-lent-fit (lends s question 1)) some) refl refl
 
   abbrev list-run : (question : List ℕ) → Some s question → ListRun
   list-run question some = run-of s question 1 (lca s question ∷ []) (list-kept question some)
@@ -134,7 +134,7 @@ module _ (s : List ℕ) (accepts : tests.Accepted s) where
   trail-kept x y some =
       let a = lent s (x ∷ y ∷ []) 1 in
       let rows = zeros trailCells in
-      let fits = trail-fits rows (lends s (x ∷ y ∷ []) 1) (zeros-length trailCells) in
+      let fits = trail-lent-fit rows (lends s (x ∷ y ∷ []) 1) (zeros-length trailCells) in
       trail-answered a rows (admitted (x ∷ y ∷ []) (trailUnfit a rows) fits some) refl refl refl refl refl
 
   abbrev trail-run : (x y : ℕ) → Some s (x ∷ y ∷ []) → TrailRun

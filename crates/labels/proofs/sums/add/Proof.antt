@@ -54,10 +54,13 @@ record Read (label work : List ℕ) (n v p : ℕ) : Type 0 where
 read : (c : tie.After-shared-slice-known2 Inv-loop μ-loop)
     → let s = c .before .before .before .before .before .args in let l = c .before .before .before .before .loop in
     Read (s .label .now) (l .work) (length (s .parents .now)) (l .v) (parentOf c)
-read c = record {
-  sum = omega (arith, c .before .slice-known .given (parentOf c));
-  size = omega (arith, c .shared-slice-known2 .given (length (c .before .before .before .before .before .args .parents .now) + c .before .before .before .before .loop .v));
-}
+read c =
+    let s = c .before .before .before .before .before .args in
+    let l = c .before .before .before .before .loop in
+    record {
+      sum = omega (arith, c .before .slice-known .given (parentOf c));
+      size = omega (arith, c .shared-slice-known2 .given (length (s .parents .now) + l .v));
+    }
 
 loop-holds : tie.Need-loop-holds Inv-loop μ-loop
 loop-holds c = (search needs, c .pre .ordered, search needs, c .pre .sums, λ e. numbered-none _ _ _)
