@@ -11,8 +11,8 @@ use lib.Dec.{eqb}
 use lib.ListN.{length, getD, set}
 use Rattle.cells.specs.Cells.{Filled}
 use Rattle.tree.specs.Tree.{parent, rootOf}
-use Rattle.tree.specs.Buffers.{none, workCells}
-use Rattle.tree.specs.Labels.{inlabel, head}
+use Rattle.tree.specs.Buffers.{noCell, workCells}
+use Rattle.tree.specs.Labels.{inlabel, headNode}
 use Rattle.tree.specs.Ready.{Ready}
 use Rattle.tree.proofs.Scans.{by-equal, by-test}
 use Rattle.tree.proofs.Trees.{root-found}
@@ -23,11 +23,11 @@ use Rattle.labels.proofs.Filling.{Filling, filling-store, filling-keep}
 
 -- what is found of HEAD when the nodes below v have been seen, and the root
 abbrev pub Seen : List ℕ → ℕ → ℕ → Type 0
-Seen s v h = (h ≡ none) ⊎ ((h ≡ rootOf s) ⊎ (h < v))
+Seen s v h = (h ≡ noCell) ⊎ ((h ≡ rootOf s) ⊎ (h < v))
 
 -- work has HEAD from cell n on for the numbers for which P holds of it
 abbrev pub Heads : List ℕ → List ℕ → (ℕ → Type 0) → Type 0
-Heads s work P = Filling s work (length s) (λ i. head s (suc i)) (λ i. P (head s (suc i)))
+Heads s work P = Filling s work (length s) (λ i. headNode s (suc i)) (λ i. P (headNode s (suc i)))
 
 -- the cell of a node is in work
 pub place-inside : {s label : List ℕ} {v q : ℕ} → v < length s → Labelled s label v
@@ -37,12 +37,12 @@ place-inside {s} {label} {v} {q} h f e =
     (λ t. let own : q ≡ length s - 1 + getD label (3 * length s + v) 0 = rw t at e in omega arith)
 
 -- before the first store
-heads-none : {s before work : List ℕ} → Filled before (length s) (length s) none work → length work ≡ workCells (length s) → Heads s work (λ h. h ≡ none)
+heads-none : {s before work : List ℕ} → Filled before (length s) (length s) noCell work → length work ≡ workCells (length s) → Heads s work (λ h. h ≡ noCell)
 heads-none {s} full long = record { room = long; cell = λ i h e. full .here (length s + i) (omega arith) (omega arith) ∙ sym e }
 
 module _ {s before : List ℕ} (r : Ready s before) where
   -- a node that is the head of a number has that INLABEL, and is a top node
-  head-node : (v k : ℕ) → v < length s → head s k ≡ v → (inlabel s v ≡ k) × Top s v
+  head-node : (v k : ℕ) → v < length s → headNode s k ≡ v → (inlabel s v ≡ k) × Top s v
   head-node v k h e = elim (head-cases (r .tree) k) [
     | no-node _ found ↦ let small = r .small in absurd (omega arith)
     | top-node u hu label top found ↦ let same : u ≡ v = sym found ∙ e in (ap (inlabel s) (sym same) ∙ label, subst (Top s) same top)
@@ -53,20 +53,20 @@ module _ {s before : List ℕ} (r : Ready s before) where
       → ((h : ℕ) → Q h → (h ≡ v) ⊎ P h) → Heads s (set work (length s - 1 + getD label (3 * length s + v) 0) v) Q
   heads-store {label} {work} {P} {Q} {v} hs h f top more =
       let next : suc (inlabel s v - 1) ≡ inlabel s v = omega arith in
-      filling-store hs (inlabel s v - 1) (omega arith) (omega arith) (sym (ap (head s) next ∙ head-top (r .tree) v h top))
+      filling-store hs (inlabel s v - 1) (omega arith) (omega arith) (sym (ap (headNode s) next ∙ head-top (r .tree) v h top))
       (λ i b k.
-      ⊎-elim (λ here. let own = head-node v (suc i) h here .0 in inl (omega arith)) inr (more (head s (suc i)) k))
+      ⊎-elim (λ here. let own = head-node v (suc i) h here .0 in inl (omega arith)) inr (more (headNode s (suc i)) k))
 
   -- the root is a node
   pub root-node : {root : ℕ} → root ≡ rootOf s → root < length s
   root-node is = rw (is ∙ sym (root-found (r .tree))) (r .tree .root-inside)
 
   -- .. and is stored first
-  pub heads-start : {filled label work : List ℕ} {root : ℕ} → Filled filled (length s) (length s) none work → length work ≡ workCells (length s)
+  pub heads-start : {filled label work : List ℕ} {root : ℕ} → Filled filled (length s) (length s) noCell work → length work ≡ workCells (length s)
       → root ≡ rootOf s → Labelled s label root → Heads s (set work (length s - 1 + getD label (3 * length s + root) 0) root) (Seen s 0)
   heads-start {filled} {label} {work} {root} full long is f =
       let same : r .tree .root ≡ root = root-found (r .tree) ∙ sym is in
-      heads-store {P = λ h. h ≡ none} (heads-none full long) (root-node is) f (inl (rw same at (r .tree .root-itself)))
+      heads-store {P = λ h. h ≡ noCell} (heads-none full long) (root-node is) f (inl (rw same at (r .tree .root-itself)))
       (λ h k. ⊎-elim inr (λ g. ⊎-elim (λ top. inl (top ∙ sym is)) (λ below. absurd (not-suc-le-zero {n = h} below)) g) k)
 
   -- node v is seen next
@@ -84,13 +84,13 @@ module _ {s before : List ℕ} (r : Ready s before) where
       let top : Top s v → v ≡ rootOf s = ⊎-elim (λ g. t .root-only v h g ∙ root-found t) (λ other. absurd (other same)) in
       rw first
       (filling-keep hs 0 v
-      (λ i b k. (⊎-elim (λ g. inr (inl (g ∙ top (head-node v (suc i) h g .1)))) (λ g. g) (seen-next v (head s (suc i)) k), λ g. absurd (omega arith)))))
+      (λ i b k. (⊎-elim (λ g. inr (inl (g ∙ top (head-node v (suc i) h g .1)))) (λ g. g) (seen-next v (headNode s (suc i)) k), λ g. absurd (omega arith)))))
       (λ other.
       let own : q ≡ length s - 1 + getD label (3 * length s + v) 0 = rw (ne-eqb _ _ (λ g. other (sym (f .is) ∙ g ∙ above .is))) at e in
       rw own (heads-store hs h f (inr other) (seen-next v)))
 
   -- all are seen
-  pub heads-end : {work : List ℕ} → Heads s work (Seen s (length s)) → (i : ℕ) → i < length s → getD work (length s + i) 0 ≡ head s (suc i)
+  pub heads-end : {work : List ℕ} → Heads s work (Seen s (length s)) → (i : ℕ) → i < length s → getD work (length s + i) 0 ≡ headNode s (suc i)
   heads-end hs i h = hs .cell i h (elim (head-cases (r .tree) (suc i)) [
     | no-node _ found ↦ inl found
     | top-node u hu _ _ found ↦ inr (inr (rw found hu))

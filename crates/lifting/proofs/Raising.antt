@@ -14,7 +14,7 @@ use lib.ListN.{length, drop, replicate, length-append, length-set, length-replic
 use lib.Seq.{drop-at, sets, sets-eq}
 use Rattle.bits.specs.Bits.{log2, IsBelow}
 use Rattle.tree.specs.Nodes.{Pair}
-use Rattle.tree.specs.Buffers.{none, trailCells}
+use Rattle.tree.specs.Buffers.{noCell, trailCells}
 use Rattle.tree.specs.Tables.{own}
 use Rattle.tree.specs.Trail.{Row, lastRow, falling, raiseBoth, staysApart, levelled, raised, trail, byLifts, rowCells, trailBuffer, lifts}
 use Rattle.tree.proofs.Falling.{falling-pass, falling-skip, last-append, row-cells-length}
@@ -188,11 +188,11 @@ drop-replicate n m a h =
     ∙ ap (drop n) (sym (replicate-append-replicate n (m - n) a)) ∙ drop-at (replicate n a) (replicate (m - n) a) n (length-replicate n a)
 
 -- rows stored in blank cells are a trail's buffer
-pub stored-trail : (rows : List Row) → length rows ≤ 32 → stored (replicate trailCells none) 0 rows ≡ trailBuffer rows
+pub stored-trail : (rows : List Row) → length rows ≤ 32 → stored (replicate trailCells noCell) 0 rows ≡ trailBuffer rows
 unfolding trailBuffer
 stored-trail rows h =
     let cells = rowCells rows in
     let most : length cells ≤ trailCells = omega (arith, row-cells-length rows) in
-    stored-sets (replicate trailCells none) 0 rows
-    ∙ sets-eq cells (replicate trailCells none) 0 (omega arith)
-    ∙ ap (λ (l : List ℕ). cells ++ l) (rw zero-add (drop-replicate (length cells) trailCells none most))
+    stored-sets (replicate trailCells noCell) 0 rows
+    ∙ sets-eq cells (replicate trailCells noCell) 0 (omega arith)
+    ∙ ap (λ (l : List ℕ). cells ++ l) (rw zero-add (drop-replicate (length cells) trailCells noCell most))

@@ -7,7 +7,7 @@ use mathlib.Core.Path.{_≡_, sym, ap, _∙_}
 use mathlib.Core.List.{List}
 use lib.ListN.{length, getD}
 use Rattle.bits.specs.Bits.{log2}
-use Rattle.tree.specs.Buffers.{none, visits}
+use Rattle.tree.specs.Buffers.{noCell, visits}
 use Rattle.tree.specs.Tour.{sparse, tourTable}
 use Rattle.tree.specs.Sections.{Same}
 use Rattle.tree.proofs.Scans.{by-order}
@@ -67,12 +67,12 @@ module _ {s table before : List ℕ} {at half from : ℕ} (r : SparseRow s table
       }
 
   -- the cells whose blocks pass the end
-  pub past-end : (x : ℕ) → x < visits (length s) → visits (length s) < x + 2 * half → getD (tourTable s) (at + visits (length s) + x) 0 ≡ none
+  pub past-end : (x : ℕ) → x < visits (length s) → visits (length s) < x + 2 * half → getD (tourTable s) (at + visits (length s) + x) 0 ≡ noCell
   past-end x b h = next-cell x b ∙ sparse-end s (suc (r .row)) x (omega (arith, double))
 
   -- once they are filled, the table is the sheet's own up to the end of the next row
   pub row-filled : {now after : List ℕ} → Same now 0 (tourTable s) 0 (at + visits (length s) + (2 * length s - 2 * half))
-      → Filled now (at + visits (length s) + (2 * length s - 2 * half)) (2 * half - 1) none after
+      → Filled now (at + visits (length s) + (2 * length s - 2 * half)) (2 * half - 1) noCell after
       → Same after 0 (tourTable s) 0 (at + visits (length s) + visits (length s))
   row-filled {now} {after} own f =
       let m = visits (length s) in
@@ -97,7 +97,7 @@ module _ {s table before : List ℕ} {at half from : ℕ} (r : SparseRow s table
   -- .. or among them, which are compared with cells of work that are filled
   pub agree-after : {now work after : List ℕ} {q k to : ℕ}
       → Agree now (at + visits (length s)) (tourTable s) (at + visits (length s)) (2 * length s - 2 * half) q → 2 * length s - 2 * half ≤ q
-      → Filled work to (2 * half - 1) none after → Agree now (at + visits (length s) + (2 * length s - 2 * half)) after to (2 * half - 1) k
+      → Filled work to (2 * half - 1) noCell after → Agree now (at + visits (length s) + (2 * length s - 2 * half)) after to (2 * half - 1) k
       → Agree now (at + visits (length s)) (tourTable s) (at + visits (length s)) (visits (length s)) (2 * length s - 2 * half + k)
   agree-after {now} {work} {after} {q} {k} {to} g h f e =
       let m = visits (length s) in

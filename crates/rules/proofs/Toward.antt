@@ -12,7 +12,7 @@ use lib.ListN.{length, getD}
 use Rattle.bits.specs.Bits.{log2, rightmostZeros, bitsBelow, IsBelow}
 use Rattle.tree.specs.Tree.{parent}
 use Rattle.tree.specs.Lca.{lca}
-use Rattle.tree.specs.Labels.{inlabel, head, labelTable}
+use Rattle.tree.specs.Labels.{inlabel, headNode, labelTable}
 use Rattle.tree.specs.Tables.{own}
 use Rattle.tree.specs.Tests.{limit}
 use Rattle.tree.specs.Nodes.{Small, Pair}
@@ -37,7 +37,7 @@ pub record HeadCell (s label : List ℕ) (k : ℕ) : Type 0 where
   pub node : getD label (5 * length s + k - 1) 0 < length s
   pub above : getD s (getD label (5 * length s + k - 1) 0) 0 < length s
 
-head-cell : {s label : List ℕ} (k : ℕ) → Small s → label ≡ labelTable s → 0 < k → k ≤ length s → head s k < length s → HeadCell s label k
+head-cell : {s label : List ℕ} (k : ℕ) → Small s → label ≡ labelTable s → 0 < k → k ≤ length s → headNode s k < length s → HeadCell s label k
 unfolding parent
 head-cell {s} {label} k small mine some most h =
     let n = length s in

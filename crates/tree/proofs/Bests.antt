@@ -10,7 +10,7 @@ use mathlib.Core.List.{List, [], _∷_, _++_, List·Memᴰ, List·Memᴰ·head, 
 use borrow.Author.Tests.{le-ltb, ltb-true, ltb-false}
 use lib.Dec.{ltb}
 use lib.ListN.{length}
-use Rattle.tree.specs.Scan.{tabulateFrom, range, keep, bestFrom, best}
+use Rattle.tree.specs.Scan.{tabulateFrom, numbersFrom, keep, bestFrom, best}
 use Rattle.tree.proofs.Scans.{by-test, by-equal, length-tabulate-from}
 
 -- ---- "less" of two numbers, as a "better": it goes one way only, and what is no less than something no less is no less
@@ -110,28 +110,28 @@ module _ (better : ℕ → ℕ → Bool) (asym : (x y : ℕ) → better x y ≡ 
 
 -- ---- ranges
 
-pub length-range : (i k : ℕ) → length (range i k) ≡ k
-unfolding range
-length-range i k = length-tabulate-from (λ j. j) i k
+pub numbers-length : (i k : ℕ) → length (numbersFrom i k) ≡ k
+unfolding numbersFrom
+numbers-length i k = length-tabulate-from (λ j. j) i k
 
 -- a range in two parts
-pub range-append : (i k l : ℕ) → range i (k + l) ≡ range i k ++ range (i + k) l
-unfolding range tabulateFrom
-range-append i zero l = rw (zero-add, add-zero)
-range-append i (suc k) l = rw (suc-add, range-append (suc i) k l, suc-add, add-suc)
+pub numbers-append : (i k l : ℕ) → numbersFrom i (k + l) ≡ numbersFrom i k ++ numbersFrom (i + k) l
+unfolding numbersFrom tabulateFrom
+numbers-append i zero l = rw (zero-add, add-zero)
+numbers-append i (suc k) l = rw (suc-add, numbers-append (suc i) k l, suc-add, add-suc)
 
-pub range-member : (i k x : ℕ) → List·Memᴰ x (range i k) → (i ≤ x) × (x < i + k)
-unfolding range tabulateFrom
-range-member i zero x m = absurd (List·Memᴰ·not-nil m)
-range-member i (suc k) x m =
-    let later = range-member (suc i) k x in
+pub numbers-member : (i k x : ℕ) → List·Memᴰ x (numbersFrom i k) → (i ≤ x) × (x < i + k)
+unfolding numbersFrom tabulateFrom
+numbers-member i zero x m = absurd (List·Memᴰ·not-nil m)
+numbers-member i (suc k) x m =
+    let later = numbers-member (suc i) k x in
     ⊎-elim (λ e. (omega arith, omega arith)) (λ n. let r = later n in (omega arith, omega arith)) (List·Memᴰ·cases-cons m)
 
-pub member-range : (i k x : ℕ) → i ≤ x → x < i + k → List·Memᴰ x (range i k)
-unfolding range tabulateFrom
-member-range i zero x h b = absurd (omega arith)
-member-range i (suc k) x h b =
-    let later = member-range (suc i) k x in
+pub member-numbers : (i k x : ℕ) → i ≤ x → x < i + k → List·Memᴰ x (numbersFrom i k)
+unfolding numbersFrom tabulateFrom
+member-numbers i zero x h b = absurd (omega arith)
+member-numbers i (suc k) x h b =
+    let later = member-numbers (suc i) k x in
     by-equal x i (λ e. List·Memᴰ·head e) (λ e. List·Memᴰ·tail (later (omega arith) (omega arith)))
 
 -- ---- the members for which a test holds

@@ -14,7 +14,7 @@ use Rattle.bits.proofs.Zeros.{zeros-divide}
 use Rattle.bits.proofs.Ones.{One, lowest-place, highest-below, agree-above, differ-below, lowest-common}
 use Rattle.tree.specs.Tree.{parent, Ancestor, level, Tree}
 use Rattle.tree.specs.Lca.{Lca, lca}
-use Rattle.tree.specs.Labels.{inlabel, ascendant, head}
+use Rattle.tree.specs.Labels.{inlabel, ascendant, headNode}
 use Rattle.tree.specs.Tables.{own}
 use Rattle.tree.specs.Routes.{nearer, step1, step2, labelAbove, step3, byLabels}
 use Rattle.tree.proofs.Scans.{by-order, by-equal}
@@ -29,10 +29,10 @@ use Rattle.tree.proofs.Ascents.{place, PathAt, place-most, prefix, path
 pub record HeadBelow (s : List ℕ) (a v k : ℕ) : Type 0 where
   pub some : 0 < k
   pub most : k ≤ length s
-  pub node : head s k < length s
-  pub above : Ancestor s (parent s (head s k)) v
-  pub below : Ancestor s a (parent s (head s k))
-  pub on-path : inlabel s (parent s (head s k)) ≡ inlabel s a
+  pub node : headNode s k < length s
+  pub above : Ancestor s (parent s (headNode s k)) v
+  pub below : Ancestor s a (parent s (headNode s k))
+  pub on-path : inlabel s (parent s (headNode s k)) ≡ inlabel s a
 
 -- where the climb from v to a comes to a's path: the last node that is not on it
 record Turn (s : List ℕ) (a v : ℕ) : Type 0 where
@@ -105,7 +105,7 @@ module _ {s : List ℕ} (t : Tree s) where
       let h = r .node in
       let label : labelAbove (log2 (bitsBelow (place s a) (ascendant s v))) (inlabel s v) ≡ inlabel s h =
       ap (λ (k : ℕ). labelAbove k (inlabel s v)) (turn-place hv r) ∙ path-label t (r .part) hv (r .carries) in
-      let top : head s (inlabel s h) ≡ h = head-top t h (r .part) (inr (r .other)) in
+      let top : headNode s (inlabel s h) ≡ h = head-top t h (r .part) (inr (r .other)) in
       rw label
       (record {
         some = inlabel-pos t h (r .part);

@@ -9,7 +9,7 @@ use mathlib.Core.List.{List, _++_}
 use borrow.Author.Tests.{eq-eqb, ne-eqb, eqb-true, eqb-false, not-true, not-false}
 use lib.ListN.{length, getD, set, length-append, List·getD-append}
 use lib.Seq.{ext-getD, getD-append-add, getD-set-same, getD-set-other}
-use Rattle.tree.specs.Sections.{Same, differ, firstDifference}
+use Rattle.tree.specs.Sections.{Same, differAt, firstDifference}
 use Rattle.tree.specs.Tables.{Lent, own, endToEnd}
 use Rattle.tree.specs.Tests.{testPlace, staleTable}
 use Rattle.tree.proofs.Scans.{by-equal, by-order, least-found, least-le, least-here, least-before}
@@ -51,22 +51,22 @@ difference-is : (a b : List ℕ) (r : ℕ) → r ≤ length b → Same a 0 b 0 r
 unfolding firstDifference
 difference-is a b r h p here =
     sym
-    (least-found (differ a b) (length b) r h
+    (least-found (differAt a b) (length b) r h
     (λ x l. let e : getD a x 0 ≡ getD b x 0 = rw zero-add at (p .cell x l) in rw (eq-eqb _ _ e))
     (λ l. rw (ne-eqb _ _ (here l))))
 
 -- the cells before the first that differs, and that one
 pub difference-same : (a b : List ℕ) → Same a 0 b 0 (firstDifference a b)
 unfolding firstDifference
-difference-same a b = record { cell = λ x l. rw zero-add (eqb-true _ _ (not-false _ (least-before (differ a b) (length b) x l))) }
+difference-same a b = record { cell = λ x l. rw zero-add (eqb-true _ _ (not-false _ (least-before (differAt a b) (length b) x l))) }
 
 pub difference-here : (a b : List ℕ) → firstDifference a b < length b → getD a (firstDifference a b) 0 ≢ getD b (firstDifference a b) 0
 unfolding firstDifference
-difference-here a b h = eqb-false _ _ (not-true _ (least-here (differ a b) (length b) h))
+difference-here a b h = eqb-false _ _ (not-true _ (least-here (differAt a b) (length b) h))
 
 difference-le : (a b : List ℕ) → firstDifference a b ≤ length b
 unfolding firstDifference
-difference-le a b = least-le (differ a b) (length b)
+difference-le a b = least-le (differAt a b) (length b)
 
 -- m cells are equal, then d more, and the next differ
 pub difference-at : (a b : List ℕ) (m d : ℕ) → Same a 0 b 0 m → m + d < length b → ((x : ℕ) → x < d → getD a (m + x) 0 ≡ getD b (m + x) 0)

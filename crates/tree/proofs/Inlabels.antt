@@ -16,13 +16,13 @@ use Rattle.bits.specs.Bits.{log2, rightmostZeros, clearBelow}
 use Rattle.bits.proofs.Log.{log2-low, log2-high}
 use Rattle.bits.proofs.Zeros.{zeros-of, zeros-divide}
 use Rattle.bits.proofs.Ones.{shift-suc, xor-zero}
-use Rattle.tree.specs.Scan.{best, range}
+use Rattle.tree.specs.Scan.{best, numbersFrom}
 use Rattle.tree.specs.Tree.{isAncestor, Tree}
 use Rattle.tree.specs.Preorder.{preorderNumber, size}
 use Rattle.tree.specs.Labels.{moreZeros, mostZeros, inlabel, topmost}
 use Rattle.tree.proofs.Scans.{by-order, by-equal, count-pos}
 use Rattle.tree.proofs.Climbs.{ancestor-refl, ancestor-test}
-use Rattle.tree.proofs.Bests.{ltb-asym, ltb-trans, best-is, length-range, range-member, member-range}
+use Rattle.tree.proofs.Bests.{ltb-asym, ltb-trans, best-is, numbers-length, numbers-member, member-numbers}
 
 -- of the k numbers from a on, m has most rightmost zero bits, and each other has fewer
 pub record MostZeros (a k m : ℕ) : Type 0 where
@@ -133,13 +133,13 @@ more-trans x y z e f = ltb-trans (rightmostZeros z) (rightmostZeros y) (rightmos
 pub most-found : (a k m : ℕ) → 0 < k → MostZeros a k m → mostZeros a k ≡ m
 unfolding mostZeros
 most-found a k m h t =
-    let r = best moreZeros 0 (range a k) in
-    let b = best-is moreZeros more-asym more-trans 0 (range a k) (subst (λ (n : ℕ). 0 < n) (sym (length-range a k)) h) in
-    let (low, high) = range-member a k r (b .member) in
+    let r = best moreZeros 0 (numbersFrom a k) in
+    let b = best-is moreZeros more-asym more-trans 0 (numbersFrom a k) (subst (λ (n : ℕ). 0 < n) (sym (numbers-length a k)) h) in
+    let (low, high) = numbers-member a k r (b .member) in
     by-equal r m (λ e. e)
     (λ e.
     let less : rightmostZeros r < rightmostZeros m = t .most r low high e in
-    let not-more : rightmostZeros m ≤ rightmostZeros r = ltb-false _ _ (b .wins m (member-range a k m (t .from) (t .to))) in
+    let not-more : rightmostZeros m ≤ rightmostZeros r = ltb-false _ _ (b .wins m (member-numbers a k m (t .from) (t .to))) in
     absurd (omega arith))
 
 -- ---- INLABEL

@@ -4,12 +4,12 @@ use mathlib.Core.Path.{_≡_, refl}
 use mathlib.Core.List.{map, flatten}
 use lib.Count.{trailingZeros, ones, onesIn}
 use Rattle.bits.specs.Bits.{log2, log2In, rightmostZeros, lowestOne, clearBelow, bitsBelow}
-use Rattle.tree.specs.Scan.{least, leastFrom, count, tabulate, tabulateFrom, rows, range, keep, every, best, bestFrom, position}
+use Rattle.tree.specs.Scan.{least, leastFrom, countBelow, tabulate, tabulateFrom, rows, numbersFrom, keep, every, best, bestFrom, position}
 use Rattle.tree.specs.Tree.{parent, climb, isAncestor, isRoot, nextRoot, rootOf, level}
 use Rattle.tree.specs.Lca.{lca, isCommon}
 use Rattle.tree.specs.Tests.{verdict, empty, tooLarge, wrongLength, parentOutOfRange, noRoot, secondRoot, cycle, noCommonAncestor}
 use Rattle.tree.specs.Preorder.{preorderNumber, size, tour, isChild, eachChild, preorderIn, preorder, tourIn, firstVisit}
-use Rattle.tree.specs.Labels.{mostZeros, inlabel, ascendantIn, ascendant, head, labelTable}
+use Rattle.tree.specs.Labels.{mostZeros, inlabel, ascendantIn, ascendant, headNode, labelTable}
 use Rattle.tree.specs.Tour.{tourTable, sparse, sparseRows}
 use Rattle.tree.specs.Lifts.{liftTable, lift}
 use Rattle.tree.specs.Routes.{step1, step2, step3, labelAbove, byLabels, byTour}
@@ -19,11 +19,11 @@ use Rattle.tree.specs.Known.{Case, cases}
 pub known : map (λ (c : Case). c .given) cases ≡ map (λ (c : Case). c .stated) cases
 unfolding trailingZeros ones onesIn flatten
     log2 log2In rightmostZeros lowestOne clearBelow bitsBelow
-    least leastFrom count tabulate tabulateFrom rows range keep every best bestFrom position
+    least leastFrom countBelow tabulate tabulateFrom rows numbersFrom keep every best bestFrom position
     parent climb isAncestor isRoot nextRoot rootOf level lca isCommon
     verdict empty tooLarge wrongLength parentOutOfRange noRoot secondRoot cycle noCommonAncestor
     preorderNumber size tour isChild eachChild preorderIn preorder tourIn firstVisit
-    mostZeros inlabel ascendantIn ascendant head labelTable tourTable sparse sparseRows liftTable lift
+    mostZeros inlabel ascendantIn ascendant headNode labelTable tourTable sparse sparseRows liftTable lift
     step1 step2 step3 labelAbove byLabels byTour
     lastRow falling levelled raised trail byLifts lifts rowCells onesSum liftCount cases
 known = refl

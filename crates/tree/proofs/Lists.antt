@@ -8,13 +8,13 @@ use mathlib.Core.List.{List, [], _∷_, List·Memᴰ, List·Memᴰ·head, List·
 use borrow.Author.Tests.{eq-eqb, ltb-false}
 use lib.Dec.{ltb, eqb}
 use lib.ListN.{length, getD}
-use Rattle.tree.specs.Scan.{range, keep, position}
+use Rattle.tree.specs.Scan.{numbersFrom, keep, position}
 use Rattle.tree.specs.Tree.{Ancestor, Tree}
 use Rattle.tree.specs.Preorder.{preorderNumber}
 use Rattle.tree.specs.Lca.{Parts, Common, Lca}
 use Rattle.tree.specs.Sharing.{SameParts, SharedOut, members, firstInPreorder, lastInPreorder}
 use Rattle.tree.proofs.Scans.{position-here}
-use Rattle.tree.proofs.Bests.{Best, ltb-asym, ltb-trans, best-is, range-member, member-range, keep-member, member-keep}
+use Rattle.tree.proofs.Bests.{Best, ltb-asym, ltb-trans, best-is, numbers-member, member-numbers, keep-member, member-keep}
 use Rattle.tree.proofs.Orders.{member-at, member-position}
 use Rattle.tree.proofs.Climbs.{ancestor-inside, ancestor-trans}
 use Rattle.tree.proofs.Lcas.{each-of-two}
@@ -85,7 +85,7 @@ position-member : (xs : List ℕ) (group : ℕ → ℕ) (i : ℕ) → i < length
 unfolding members
 position-member xs group i h =
     Memᴰ·map (λ (j : ℕ). getD xs j 0)
-    (member-keep (λ j. eqb (group j) (group i)) (range 0 (length xs)) i (member-range 0 (length xs) i (omega arith) (omega arith)) (eq-eqb (group i) (group i) refl))
+    (member-keep (λ j. eqb (group j) (group i)) (numbersFrom 0 (length xs)) i (member-numbers 0 (length xs) i (omega arith) (omega arith)) (eq-eqb (group i) (group i) refl))
 
 -- no group is empty
 pub members-some : (xs : List ℕ) (m : ℕ) (group : ℕ → ℕ) → SharedOut xs m group → (g : ℕ) → g < m → 0 < length (members xs group g)
@@ -98,8 +98,8 @@ members-some xs m group shared g h =
 pub members-listed : (xs : List ℕ) (group : ℕ → ℕ) (g x : ℕ) → List·Memᴰ x (members xs group g) → List·Memᴰ x xs
 unfolding members
 members-listed xs group g x m =
-    let (i, kept, e) = Memᴰ·of-map (λ (j : ℕ). getD xs j 0) (keep (λ j. eqb (group j) g) (range 0 (length xs))) m in
-    let (_, below) = range-member 0 (length xs) i (keep-member (λ j. eqb (group j) g) (range 0 (length xs)) i kept .0) in
+    let (i, kept, e) = Memᴰ·of-map (λ (j : ℕ). getD xs j 0) (keep (λ j. eqb (group j) g) (numbersFrom 0 (length xs))) m in
+    let (_, below) = numbers-member 0 (length xs) i (keep-member (λ j. eqb (group j) g) (numbersFrom 0 (length xs)) i kept .0) in
     subst (λ (y : ℕ). List·Memᴰ y xs) e (member-at xs i (omega arith))
 
 -- what is listed is in one of the groups

@@ -10,7 +10,7 @@ use mathlib.Core.List.{List, [], _∷_, _++_, List·Memᴰ, List·Memᴰ·head, 
 use borrow.Author.Tests.{eq-eqb, ne-eqb, eqb-false, not-true}
 use lib.Dec.{eqb}
 use lib.ListN.{length, getD}
-use Rattle.tree.specs.Scan.{count, position}
+use Rattle.tree.specs.Scan.{countBelow, position}
 use Rattle.tree.proofs.Scans.{by-test, position-at-most, count-constant, count-one}
 
 -- ---- membership and positions
@@ -52,15 +52,15 @@ module _ (R : ℕ → ℕ → Type 0) where
 
   -- different numbers, namely those below n for which p holds, are as many as are counted
   pub ordered-count : (n : ℕ) → ((x : ℕ) → x < n → R x x → ⊥) → (p : ℕ → Bool) (l : List ℕ) → Ordered l
-      → ((x : ℕ) → List·Memᴰ x l → (x < n) × (p x ≡ true)) → ((x : ℕ) → x < n → p x ≡ true → List·Memᴰ x l) → length l ≡ count p n
+      → ((x : ℕ) → List·Memᴰ x l → (x < n) × (p x ≡ true)) → ((x : ℕ) → x < n → p x ≡ true → List·Memᴰ x l) → length l ≡ countBelow p n
   ordered-count n irrefl p [] ordered member listed =
       sym (count-constant p false n (λ j h. by-test (p j) (λ e. absurd (List·Memᴰ·not-nil (listed j h e))) (λ e. e)) ∙ mul-zero n)
   ordered-count n irrefl p (x ∷ xs) ordered member listed =
       let q : ℕ → Bool = λ j. p j && not (eqb j x) in
       let here = member x (List·Memᴰ·head refl) in
-      let one : count p n ≡ suc (count q n) =
+      let one : countBelow p n ≡ suc (countBelow q n) =
       count-one p q n x (here .0) (λ j g. rw (ne-eqb j x g) (and-true (p j))) (here .1) (rw (eq-eqb x x refl) (and-false (p x))) in
-      let rest : length xs ≡ count q n =
+      let rest : length xs ≡ countBelow q n =
       ordered-count n irrefl q xs (ordered .1)
       (λ y m.
       let there = member y (List·Memᴰ·tail m) in

@@ -10,7 +10,7 @@ use Rattle.bits.specs.Bits.{log2}
 use Rattle.tree.specs.Tree.{level, Tree}
 use Rattle.tree.specs.Buffers.{visits}
 use Rattle.tree.specs.Preorder.{preorderNumber, tour, firstVisit}
-use Rattle.tree.specs.Labels.{labelColumn, labelTable, inlabel, ascendant, head}
+use Rattle.tree.specs.Labels.{labelColumn, labelTable, inlabel, ascendant, headNode}
 use Rattle.tree.specs.Tour.{sparse, tourTable}
 use Rattle.tree.specs.Lifts.{lift}
 use Rattle.tree.specs.Tables.{own}
@@ -39,10 +39,10 @@ module _ (s : List ℕ) (v : ℕ) (h : v < length s) where
   ascendant-at = column-at s 4 v (omega arith) h
 
 -- HEAD of k
-pub head-at : (s : List ℕ) (k : ℕ) → 0 < k → k ≤ length s → headAt (own s) k ≡ head s k
+pub head-at : (s : List ℕ) (k : ℕ) → 0 < k → k ≤ length s → headAt (own s) k ≡ headNode s k
 head-at s k some h =
     let same : suc (k - 1) ≡ k = omega arith in
-    column-at s 5 (k - 1) (omega arith) (omega arith) ∙ ap (head s) same
+    column-at s 5 (k - 1) (omega arith) (omega arith) ∙ ap (headNode s) same
 
 -- ---- the tour table
 

@@ -15,13 +15,13 @@ use Rattle.bits.specs.Bits.{log2, rightmostZeros, lowestOne}
 use Rattle.bits.proofs.Log.{log2-low, log2-high}
 use Rattle.bits.proofs.Zeros.{power-zeros, zeros-odd}
 use Rattle.bits.proofs.Ones.{lowest-power}
-use Rattle.tree.specs.Scan.{range, keep, best}
+use Rattle.tree.specs.Scan.{numbersFrom, keep, best}
 use Rattle.tree.specs.Tree.{parent, Ancestor, isRoot, level, Tree}
-use Rattle.tree.specs.Buffers.{none}
+use Rattle.tree.specs.Buffers.{noCell}
 use Rattle.tree.specs.Preorder.{preorder, preorderNumber, size}
-use Rattle.tree.specs.Labels.{inlabel, ascendantIn, ascendant, nearerRoot, head}
+use Rattle.tree.specs.Labels.{inlabel, ascendantIn, ascendant, nearerRoot, headNode}
 use Rattle.tree.proofs.Scans.{by-order, by-equal}
-use Rattle.tree.proofs.Bests.{ltb-asym, ltb-trans, best-is, range-member, member-range, keep-member, member-keep}
+use Rattle.tree.proofs.Bests.{ltb-asym, ltb-trans, best-is, numbers-member, member-numbers, keep-member, member-keep}
 use Rattle.tree.proofs.Climbs.{ancestor-above, ancestor-root, ancestor-parent}
 use Rattle.tree.proofs.Roots.{is-root}
 use Rattle.tree.proofs.Trees.{level-below, level-parent, ancestors-ordered}
@@ -44,8 +44,8 @@ Top s v = (parent s v ≡ v) ⊎ (inlabel s v ≢ inlabel s (parent s v))
 
 -- what HEAD holds for k: 65535 where no node has INLABEL k, and else the top node of those that have
 pub data HeadOf (s : List ℕ) (k : ℕ) : Type 0 where
-  no-node : ((v : ℕ) → v < length s → inlabel s v ≢ k) → head s k ≡ none → HeadOf s k
-  top-node : (v : ℕ) → v < length s → inlabel s v ≡ k → Top s v → head s k ≡ v → HeadOf s k
+  no-node : ((v : ℕ) → v < length s → inlabel s v ≢ k) → headNode s k ≡ noCell → HeadOf s k
+  top-node : (v : ℕ) → v < length s → inlabel s v ≡ k → Top s v → headNode s k ≡ v → HeadOf s k
 
 module _ {s : List ℕ} (t : Tree s) where
   -- ---- INLABEL
@@ -126,13 +126,13 @@ module _ {s : List ℕ} (t : Tree s) where
 
   -- HEAD of k is the best of a list of the nodes whose INLABEL is k
   head-of : (k : ℕ) (l : List ℕ) → ((v : ℕ) → List·Memᴰ v l → (v < length s) × (inlabel s v ≡ k))
-      → ((v : ℕ) → v < length s → inlabel s v ≡ k → List·Memᴰ v l) → head s k ≡ best (nearerRoot s) none l → HeadOf s k
+      → ((v : ℕ) → v < length s → inlabel s v ≡ k → List·Memᴰ v l) → headNode s k ≡ best (nearerRoot s) noCell l → HeadOf s k
   unfolding best
   head-of k [] node listed e = no-node (λ v h q. List·Memᴰ·not-nil (listed v h q)) e
   head-of k (x ∷ xs) node listed e =
-      let r = best (nearerRoot s) none (x ∷ xs) in
+      let r = best (nearerRoot s) noCell (x ∷ xs) in
       let b =
-      best-is (nearerRoot s) (λ u v. ltb-asym (level s u) (level s v)) (λ u v w. ltb-trans (level s u) (level s v) (level s w)) none (x ∷ xs)
+      best-is (nearerRoot s) (λ u v. ltb-asym (level s u) (level s v)) (λ u v w. ltb-trans (level s u) (level s v) (level s w)) noCell (x ∷ xs)
       (zero-lt-suc (length xs)) in
       let (h, label) = node r (b .member) in
       let top : Top s r =
@@ -146,27 +146,27 @@ module _ {s : List ℕ} (t : Tree s) where
 
   -- each cell of HEAD: no node, or the top node
   pub head-cases : (k : ℕ) → HeadOf s k
-  unfolding head
+  unfolding headNode
   head-cases k =
       let p : ℕ → Bool = λ v. eqb (inlabel s v) k in
-      let all = range 0 (length s) in
+      let all = numbersFrom 0 (length s) in
       head-of k (keep p all)
       (λ v m.
       let r = keep-member p all v m in
-      let inside = range-member 0 (length s) v (r .0) in
+      let inside = numbers-member 0 (length s) v (r .0) in
       (omega arith, eqb-true _ _ (r .1)))
-      (λ v h e. member-keep p all v (member-range 0 (length s) v (omega arith) (omega arith)) (eq-eqb _ _ e))
+      (λ v h e. member-keep p all v (member-numbers 0 (length s) v (omega arith) (omega arith)) (eq-eqb _ _ e))
       refl
 
   -- HEAD of a node's INLABEL is a node
-  pub head-part : (v : ℕ) → v < length s → head s (inlabel s v) < length s
+  pub head-part : (v : ℕ) → v < length s → headNode s (inlabel s v) < length s
   head-part v h = elim (head-cases (inlabel s v)) [
     | no-node unused _ ↦ absurd (unused v h refl)
     | top-node u hu _ _ found ↦ rw found hu
   ]
 
   -- HEAD of a top node's INLABEL is the node
-  pub head-top : (v : ℕ) → v < length s → Top s v → head s (inlabel s v) ≡ v
+  pub head-top : (v : ℕ) → v < length s → Top s v → headNode s (inlabel s v) ≡ v
   head-top v h top = elim (head-cases (inlabel s v)) [
     | no-node unused _ ↦ absurd (unused v h refl)
     | top-node u hu same other found ↦

@@ -10,7 +10,7 @@ use mathlib.Core.Bool.{Bool, true, false, cond, true≢false, false≢true}
 use mathlib.Core.List.{List, [], _∷_, List·Memᴰ, List·Memᴰ·head, List·Memᴰ·tail, List·Memᴰ·not-nil, List·Memᴰ·cases-cons}
 use borrow.Author.Tests.{eqb-true, eq-eqb}
 use lib.ListN.{length, getD}
-use Rattle.tree.specs.Scan.{leastFrom, least, count, tabulateFrom, every, position}
+use Rattle.tree.specs.Scan.{leastFrom, least, countBelow, tabulateFrom, every, position}
 
 -- a test passes or fails
 pub by-test {ℓ} : {X : Type ℓ} (b : Bool) → (b ≡ true → X) → (b ≡ false → X) → X
@@ -103,29 +103,29 @@ position-at-most l v i e = least-at-most _ (length l) i (eq-eqb _ _ e)
 -- ---- counting
 
 -- one number for which p holds makes the count positive
-pub count-pos : (p : ℕ → Bool) (n v : ℕ) → v < n → p v ≡ true → 0 < count p n
-unfolding count
+pub count-pos : (p : ℕ → Bool) (n v : ℕ) → v < n → p v ≡ true → 0 < countBelow p n
+unfolding countBelow
 count-pos p zero v h e = absurd (not-suc-le-zero h)
 count-pos p (suc n) v h e =
     by-equal v n
     (λ q. let here : p n ≡ true = ap p (sym q) ∙ e in rw here (omega arith))
-    (λ q. let ih : 0 < count p n = count-pos p n v (omega arith) e in omega arith)
+    (λ q. let ih : 0 < countBelow p n = count-pos p n v (omega arith) e in omega arith)
 
 -- tests that agree below n count the same
-pub count-same : (p q : ℕ → Bool) (n : ℕ) → ((j : ℕ) → j < n → q j ≡ p j) → count q n ≡ count p n
-unfolding count
+pub count-same : (p q : ℕ → Bool) (n : ℕ) → ((j : ℕ) → j < n → q j ≡ p j) → countBelow q n ≡ countBelow p n
+unfolding countBelow
 count-same p q zero h = refl
 count-same p q (suc n) h = rw (h n (lt-suc-self n), count-same p q n (λ j b. h j (omega arith)))
 
 -- a test that is the same below n counts all numbers or none
-pub count-constant : (p : ℕ → Bool) (b : Bool) (n : ℕ) → ((j : ℕ) → j < n → p j ≡ b) → count p n ≡ n * cond b 1 0
-unfolding count
+pub count-constant : (p : ℕ → Bool) (b : Bool) (n : ℕ) → ((j : ℕ) → j < n → p j ≡ b) → countBelow p n ≡ n * cond b 1 0
+unfolding countBelow
 count-constant p b zero h = sym (zero-mul (cond b 1 0))
 count-constant p b (suc n) h = rw (h n (lt-suc-self n), count-constant p b n (λ j g. h j (omega arith)), suc-mul n (cond b 1 0))
 
 -- tests that differ in one number below n count one apart
-pub count-one : (p q : ℕ → Bool) (n i : ℕ) → i < n → ((j : ℕ) → j ≢ i → q j ≡ p j) → p i ≡ true → q i ≡ false → count p n ≡ suc (count q n)
-unfolding count
+pub count-one : (p q : ℕ → Bool) (n i : ℕ) → i < n → ((j : ℕ) → j ≢ i → q j ≡ p j) → p i ≡ true → q i ≡ false → countBelow p n ≡ suc (countBelow q n)
+unfolding countBelow
 count-one p q zero i h same yes-p no-q = absurd (not-suc-le-zero h)
 count-one p q (suc n) i h same yes-p no-q =
     let earlier = count-one p q n i in
@@ -133,11 +133,11 @@ count-one p q (suc n) i h same yes-p no-q =
     (λ e.
     let yes-n : p n ≡ true = ap p (sym e) ∙ yes-p in
     let no-n : q n ≡ false = ap q (sym e) ∙ no-q in
-    let below : count q n ≡ count p n = count-same p q n (λ j b. same j (λ g. absurd (omega arith))) in
+    let below : countBelow q n ≡ countBelow p n = count-same p q n (λ j b. same j (λ g. absurd (omega arith))) in
     rw (yes-n, no-n, below) (omega arith))
     (λ e.
     let at-n : q n ≡ p n = same n (λ g. e (sym g)) in
-    let ih : count p n ≡ suc (count q n) = earlier (omega arith) same yes-p no-q in
+    let ih : countBelow p n ≡ suc (countBelow q n) = earlier (omega arith) same yes-p no-q in
     rw at-n (omega arith))
 
 -- ---- a test of every member

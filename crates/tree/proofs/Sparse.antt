@@ -9,12 +9,12 @@ use mathlib.Core.List.{List}
 use borrow.Author.Tests.{le-leb, lt-leb, ltb-false}
 use lib.ListN.{length, getD}
 use lib.Pow.{pow-pos}
-use Rattle.tree.specs.Scan.{tabulateFrom, range, bestFrom, best}
+use Rattle.tree.specs.Scan.{tabulateFrom, numbersFrom, bestFrom, best}
 use Rattle.tree.specs.Tree.{level}
-use Rattle.tree.specs.Buffers.{none, visits}
+use Rattle.tree.specs.Buffers.{noCell, visits}
 use Rattle.tree.specs.Preorder.{tour}
 use Rattle.tree.specs.Tour.{lesserLevel, sparse}
-use Rattle.tree.proofs.Bests.{Best, ltb-asym, ltb-trans, best-is, best-append, length-range, range-append, range-member, member-range}
+use Rattle.tree.proofs.Bests.{Best, ltb-asym, ltb-trans, best-is, best-append, numbers-length, numbers-append, numbers-member, member-numbers}
 
 module _ (s : List ℕ) where
   lesser-asym : (p q : ℕ) → lesserLevel s p q ≡ true → lesserLevel s q p ≡ false
@@ -24,16 +24,16 @@ module _ (s : List ℕ) where
   lesser-trans p q r = ltb-trans (level s (getD (tour s) p 0)) (level s (getD (tour s) q 0)) (level s (getD (tour s) r 0))
 
   -- the best position of a block that does not pass the end
-  leftmost : (j i : ℕ) → i + 2 ^ j ≤ visits (length s) → sparse s j i ≡ best (lesserLevel s) none (range i (2 ^ j))
+  leftmost : (j i : ℕ) → i + 2 ^ j ≤ visits (length s) → sparse s j i ≡ best (lesserLevel s) noCell (numbersFrom i (2 ^ j))
   unfolding sparse
   leftmost j i h = rw (le-leb (i + 2 ^ j) (visits (length s)) h)
 
-  block : (i j : ℕ) → 0 < length (range i (2 ^ j))
-  block i j = rw length-range (pow-pos j)
+  block : (i j : ℕ) → 0 < length (numbersFrom i (2 ^ j))
+  block i j = rw numbers-length (pow-pos j)
 
   -- row 0: each position is its own block
   pub sparse-zero : (i : ℕ) → i < visits (length s) → sparse s 0 i ≡ i
-  unfolding range tabulateFrom best bestFrom
+  unfolding numbersFrom tabulateFrom best bestFrom
   sparse-zero i h = leftmost 0 i (omega arith)
 
   -- a later row: of a block's two halves, the left one's position unless the right one's has lesser LEVEL
@@ -44,20 +44,20 @@ module _ (s : List ℕ) where
       let left = leftmost j i (omega arith) in
       let right = leftmost j (i + 2 ^ j) (omega arith) in
       leftmost (suc j) i h
-      ∙ rw (twice, range-append i (2 ^ j) (2 ^ j), left, right)
-      (best-append (lesserLevel s) lesser-asym lesser-trans none (range i (2 ^ j)) (range (i + 2 ^ j) (2 ^ j)) (block i j) (block (i + 2 ^ j) j))
+      ∙ rw (twice, numbers-append i (2 ^ j) (2 ^ j), left, right)
+      (best-append (lesserLevel s) lesser-asym lesser-trans noCell (numbersFrom i (2 ^ j)) (numbersFrom (i + 2 ^ j) (2 ^ j)) (block i j) (block (i + 2 ^ j) j))
 
   -- 65535 where the block passes the end
-  pub sparse-end : (j i : ℕ) → visits (length s) < i + 2 ^ j → sparse s j i ≡ none
+  pub sparse-end : (j i : ℕ) → visits (length s) < i + 2 ^ j → sparse s j i ≡ noCell
   unfolding sparse
   sparse-end j i h = rw (lt-leb (i + 2 ^ j) (visits (length s)) h)
 
   -- so each such cell is the best position of its block
-  best-position : (j i : ℕ) → i + 2 ^ j ≤ visits (length s) → Best (lesserLevel s) (range i (2 ^ j)) (sparse s j i)
-  best-position j i h = rw (leftmost j i h) (best-is (lesserLevel s) lesser-asym lesser-trans none (range i (2 ^ j)) (block i j))
+  best-position : (j i : ℕ) → i + 2 ^ j ≤ visits (length s) → Best (lesserLevel s) (numbersFrom i (2 ^ j)) (sparse s j i)
+  best-position j i h = rw (leftmost j i h) (best-is (lesserLevel s) lesser-asym lesser-trans noCell (numbersFrom i (2 ^ j)) (block i j))
 
   inside : (j i : ℕ) → i + 2 ^ j ≤ visits (length s) → (i ≤ sparse s j i) × (sparse s j i < i + 2 ^ j)
-  inside j i h = range-member i (2 ^ j) (sparse s j i) (best-position j i h .member)
+  inside j i h = numbers-member i (2 ^ j) (sparse s j i) (best-position j i h .member)
 
   -- the position stands in its block: not before it
   pub sparse-from : (j i : ℕ) → i + 2 ^ j ≤ visits (length s) → i ≤ sparse s j i
@@ -70,4 +70,4 @@ module _ (s : List ℕ) where
   -- no position of the block has lesser LEVEL
   pub sparse-least : (j i p : ℕ) → i + 2 ^ j ≤ visits (length s) → i ≤ p → p < i + 2 ^ j
       → level s (getD (tour s) (sparse s j i) 0) ≤ level s (getD (tour s) p 0)
-  sparse-least j i p h from to = ltb-false _ _ (best-position j i h .wins p (member-range i (2 ^ j) p from to))
+  sparse-least j i p h from to = ltb-false _ _ (best-position j i h .wins p (member-numbers i (2 ^ j) p from to))

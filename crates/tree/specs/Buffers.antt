@@ -9,8 +9,8 @@ use Rattle.bits.specs.Bits.{log2}
 use Rattle.tree.specs.Verdict.{Verdict, accepted, refused}
 
 -- "Every cell is an unsigned 16-bit number; 65535 means no cell"
-abbrev pub none : ℕ
-none = 65535
+abbrev pub noCell : ℕ
+noCell = 65535
 
 -- ---- exact lengths, in cells
 

@@ -13,8 +13,8 @@ use Rattle.tree.specs.Lca.{lca}
 use Rattle.tree.specs.Verdict.{Verdict, accepted, refused, verdictOf}
 use Rattle.tree.specs.Tests.{verdict, sheetTests, noCommonAncestor}
 use Rattle.tree.specs.Preorder.{preorderNumber, size, tour}
-use Rattle.tree.specs.Buffers.{none, labelCells, tourCells, liftCells}
-use Rattle.tree.specs.Labels.{inlabel, ascendant, head, labelTable}
+use Rattle.tree.specs.Buffers.{noCell, labelCells, tourCells, liftCells}
+use Rattle.tree.specs.Labels.{inlabel, ascendant, headNode, labelTable}
 use Rattle.tree.specs.Tables.{own}
 use Rattle.tree.specs.Routes.{byLabels, byTour}
 use Rattle.tree.specs.Trail.{trail, rowCells, byLifts, lifts, liftCount}
@@ -70,7 +70,7 @@ cases =
     ∷ record { given = sevenParts (inlabel seven); stated = 4 ∷ 4 ∷ 6 ∷ 3 ∷ 4 ∷ 6 ∷ 7 ∷ [] }
     ∷ record { given = sevenParts (ascendant seven); stated = 4 ∷ 4 ∷ 6 ∷ 5 ∷ 4 ∷ 6 ∷ 7 ∷ [] }
     -- "its HEAD: none none 3 0 none 2 6"
-    ∷ record { given = sevenParts (λ i. head seven (suc i)); stated = none ∷ none ∷ 3 ∷ 0 ∷ none ∷ 2 ∷ 6 ∷ [] }
+    ∷ record { given = sevenParts (λ i. headNode seven (suc i)); stated = noCell ∷ noCell ∷ 3 ∷ 0 ∷ noCell ∷ 2 ∷ 6 ∷ [] }
     -- "its E: 0 1 3 1 4 1 0 2 5 6 5 2 0"
     ∷ record { given = tour seven; stated = 0 ∷ 1 ∷ 3 ∷ 1 ∷ 4 ∷ 1 ∷ 0 ∷ 2 ∷ 5 ∷ 6 ∷ 5 ∷ 2 ∷ 0 ∷ [] }
     -- "its tables have 42, 72 and 21 cells"

@@ -7,9 +7,9 @@ use lib.Bits.{bitXor}
 use lib.Dec.{ltb, eqb}
 use lib.ListN.{length, getD}
 use Rattle.bits.specs.Bits.{log2, rightmostZeros, lowestOne, clearBelow}
-use Rattle.tree.specs.Scan.{rows, range, keep, best}
+use Rattle.tree.specs.Scan.{rows, numbersFrom, keep, best}
 use Rattle.tree.specs.Tree.{parent, isRoot, level}
-use Rattle.tree.specs.Buffers.{none}
+use Rattle.tree.specs.Buffers.{noCell}
 use Rattle.tree.specs.Preorder.{preorderNumber, size}
 
 -- m has more rightmost zero bits than b
@@ -18,7 +18,7 @@ moreZeros m b = ltb (rightmostZeros b) (rightmostZeros m)
 
 -- of the k numbers from a on, the one with most rightmost zero bits
 unfoldable pub mostZeros : ℕ → ℕ → ℕ
-mostZeros a k = best moreZeros 0 (range a k)
+mostZeros a k = best moreZeros 0 (numbersFrom a k)
 
 -- INLABEL: "the number in PREORDER..PREORDER+SIZE−1 with most rightmost zero bits"
 unfoldable pub inlabel : List ℕ → ℕ → ℕ
@@ -47,16 +47,16 @@ abbrev pub nearerRoot : List ℕ → ℕ → ℕ → Bool
 nearerRoot s u v = ltb (level s u) (level s v)
 
 -- HEAD: "the part nearest the root with INLABEL k, or 65535"
-unfoldable pub head : List ℕ → ℕ → ℕ
-head s k = best (nearerRoot s) none (keep (λ v. eqb (inlabel s v) k) (range 0 (length s)))
+unfoldable pub headNode : List ℕ → ℕ → ℕ
+headNode s k = best (nearerRoot s) noCell (keep (λ v. eqb (inlabel s v) k) (numbersFrom 0 (length s)))
 
 -- the six columns, each a number for cell 0 to n−1. "HEAD, cell k−1 for k from 1 to n"
 abbrev pub labelColumns : List ℕ → List (ℕ → ℕ)
-labelColumns s = preorderNumber s ∷ size s ∷ level s ∷ inlabel s ∷ ascendant s ∷ (λ i. head s (suc i)) ∷ []
+labelColumns s = preorderNumber s ∷ size s ∷ level s ∷ inlabel s ∷ ascendant s ∷ (λ i. headNode s (suc i)) ∷ []
 
 -- column k, from 0
 abbrev pub labelColumn : List ℕ → ℕ → ℕ → ℕ
-labelColumn s k = getD (labelColumns s) k (λ _. none)
+labelColumn s k = getD (labelColumns s) k (λ _. noCell)
 
 -- "Label table, 6n cells, six columns of n"
 unfoldable pub labelTable : List ℕ → List ℕ

@@ -17,9 +17,9 @@ unfoldable pub least : (ℕ → Bool) → ℕ → ℕ
 least p n = leastFrom p 0 n
 
 -- how many numbers below n there are for which p holds
-unfoldable pub count : (ℕ → Bool) → ℕ → ℕ
-count p zero = 0
-count p (suc n) = count p n + cond (p n) 1 0
+unfoldable pub countBelow : (ℕ → Bool) → ℕ → ℕ
+countBelow p zero = 0
+countBelow p (suc n) = countBelow p n + cond (p n) 1 0
 
 -- f i, f (i + 1) and so on: k of them
 unfoldable pub tabulateFrom {ℓ} : {A : Type ℓ} → (ℕ → A) → ℕ → ℕ → List A
@@ -35,8 +35,8 @@ unfoldable pub rows : (ℕ → ℕ → ℕ) → ℕ → ℕ → List ℕ
 rows f k w = flatten (tabulate (λ j. tabulate (f j) w) k)
 
 -- the k numbers from i on
-unfoldable pub range : ℕ → ℕ → List ℕ
-range i k = tabulateFrom (λ j. j) i k
+unfoldable pub numbersFrom : ℕ → ℕ → List ℕ
+numbersFrom i k = tabulateFrom (λ j. j) i k
 
 -- those members of a list for which p holds, in the list's order
 unfoldable pub keep : (ℕ → Bool) → List ℕ → List ℕ

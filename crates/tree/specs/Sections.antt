@@ -13,9 +13,9 @@ pub record Same (a : List ℕ) (i : ℕ) (b : List ℕ) (j k : ℕ) : Type 0 whe
   pub cell : (x : ℕ) → x < k → getD a (i + x) 0 ≡ getD b (j + x) 0
 
 -- two lists differ in cell i
-abbrev pub differ : List ℕ → List ℕ → ℕ → Bool
-differ a b i = not (eqb (getD a i 0) (getD b i 0))
+abbrev pub differAt : List ℕ → List ℕ → ℕ → Bool
+differAt a b i = not (eqb (getD a i 0) (getD b i 0))
 
 -- the first cell in which a differs from b; the length of b where there is none
 unfoldable pub firstDifference : List ℕ → List ℕ → ℕ
-firstDifference a b = least (differ a b) (length b)
+firstDifference a b = least (differAt a b) (length b)

@@ -6,7 +6,7 @@ use mathlib.Core.Logic.{_↔_}
 use mathlib.Core.List.{List, map, List·Memᴰ}
 use lib.Dec.{ltb, eqb}
 use lib.ListN.{length, getD}
-use Rattle.tree.specs.Scan.{range, keep, best}
+use Rattle.tree.specs.Scan.{numbersFrom, keep, best}
 use Rattle.tree.specs.Preorder.{preorderNumber}
 
 -- both lists name exactly the same parts
@@ -21,7 +21,7 @@ pub record SharedOut (xs : List ℕ) (m : ℕ) (group : ℕ → ℕ) : Type 0 wh
 
 -- the parts at the positions of group g
 unfoldable pub members : List ℕ → (ℕ → ℕ) → ℕ → List ℕ
-members xs group g = map (λ i. getD xs i 0) (keep (λ i. eqb (group i) g) (range 0 (length xs)))
+members xs group g = map (λ i. getD xs i 0) (keep (λ i. eqb (group i) g) (numbersFrom 0 (length xs)))
 
 -- the first and the last of a list's parts in preorder
 unfoldable pub firstInPreorder : List ℕ → List ℕ → ℕ

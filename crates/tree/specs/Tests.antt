@@ -14,7 +14,7 @@ use Rattle.tree.specs.Tree.{parent, climb, isRoot, nextRoot, rootOf}
 use Rattle.tree.specs.Lca.{isCommon}
 use Rattle.tree.specs.Verdict.{Verdict, accepted, refused, numberOf, placeOf}
 use Rattle.tree.specs.Tables.{Lent, own, endToEnd}
-use Rattle.tree.specs.Sections.{differ}
+use Rattle.tree.specs.Sections.{differAt}
 
 -- a row of the table: whether the call's input passes, and the refusal where it does not
 pub record Test : Type 0 where
@@ -71,7 +71,7 @@ cycle s = lowestBad Cycle (λ v. not (isRoot s (climb s (length s) v))) (length 
 unfoldable pub staleTable : Lent → Test
 staleTable t =
     let mine = endToEnd (own (t .parents)) in
-    lowestBad StaleTable (differ (endToEnd t) mine) (length mine)
+    lowestBad StaleTable (differAt (endToEnd t) mine) (length mine)
 
 -- 9 "nothing listed": no pair or part given
 unfoldable pub nothingListed : List ℕ → Test

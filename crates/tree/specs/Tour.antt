@@ -6,8 +6,8 @@ use mathlib.Core.List.{List, _++_}
 use lib.Dec.{leb}
 use lib.ListN.{length, getD}
 use Rattle.bits.specs.Bits.{log2}
-use Rattle.tree.specs.Scan.{tabulate, rows, range, best}
-use Rattle.tree.specs.Buffers.{none, visits}
+use Rattle.tree.specs.Scan.{tabulate, rows, numbersFrom, best}
+use Rattle.tree.specs.Buffers.{noCell, visits}
 use Rattle.tree.specs.Preorder.{tour, firstVisit}
 use Rattle.tree.specs.Labels.{nearerRoot}
 
@@ -18,8 +18,8 @@ lesserLevel s p q = nearerRoot s (getD (tour s) p 0) (getD (tour s) q 0)
 -- "Row j, cell i is the leftmost position of least LEVEL among i..i+2^j−1, or 65535 where that block passes the end"
 unfoldable pub sparse : List ℕ → ℕ → ℕ → ℕ
 sparse s j i =
-    let leftmost = best (lesserLevel s) none (range i (2 ^ j)) in
-    cond (leb (i + 2 ^ j) (visits (length s))) leftmost none
+    let leftmost = best (lesserLevel s) noCell (numbersFrom i (2 ^ j)) in
+    cond (leb (i + 2 ^ j) (visits (length s))) leftmost noCell
 
 -- rows 0 to t of 2n−1 cells, t = log(2n−1)
 unfoldable pub sparseRows : List ℕ → List ℕ

@@ -10,7 +10,7 @@ use lib.ListN.{length, replicate}
 use Rattle.bits.specs.Bits.{log2}
 use Rattle.tree.specs.Tree.{level}
 use Rattle.tree.specs.Lca.{lca}
-use Rattle.tree.specs.Buffers.{none, trailCells}
+use Rattle.tree.specs.Buffers.{noCell, trailCells}
 use Rattle.tree.specs.Tables.{Lent}
 use Rattle.tree.specs.Routes.{cell, parts, levelAt}
 
@@ -89,7 +89,7 @@ rowCells (p ∷ ps) = p .x ∷ p .y ∷ rowCells ps
 
 -- "A trail buffer has 64 cells (32 rows); unused cells become 65535"
 unfoldable pub trailBuffer : List Row → List ℕ
-trailBuffer rows = rowCells rows ++ replicate (trailCells - length (rowCells rows)) none
+trailBuffer rows = rowCells rows ++ replicate (trailCells - length (rowCells rows)) noCell
 
 -- "With ones(m) the count of one bits in m, g the difference of levels and d the steps from the levelled parts to the carrier, lifts
 -- are ones(g), plus, if d > 0, ones(d−1)+1"
