@@ -38,11 +38,11 @@ tree-meets {s} t v h =
 -- ---- what each test of a sheet says where it passes
 
 -- 4: every entry is below n
-entries-inside : (s : List ℕ) → parentOutOfRange s .passes ≡ true → Inside s
+entries-inside : (s : List ℕ) → parentOutOfRange 0 s .passes ≡ true → Inside s
 unfolding parentOutOfRange
 entries-inside s e = entries-inside-place s (le-of-eq (sym (eqb-true _ _ e)))
 
-inside-passes : (s : List ℕ) → Inside s → parentOutOfRange s .passes ≡ true
+inside-passes : (s : List ℕ) → Inside s → parentOutOfRange 0 s .passes ≡ true
 unfolding parentOutOfRange
 inside-passes s inside = none-bad _ (length s) (λ v h. lt-leb (length s) (parent s v) (inside v h))
 
@@ -52,16 +52,16 @@ unfolding noRoot
 root-below s e = ltb-true _ _ e
 
 -- 6: no other part does
-root-alone : (s : List ℕ) → rootOf s < length s → secondRoot s .passes ≡ true → (v : ℕ) → v < length s → parent s v ≡ v → v ≡ rootOf s
+root-alone : (s : List ℕ) → rootOf s < length s → secondRoot 0 s .passes ≡ true → (v : ℕ) → v < length s → parent s v ≡ v → v ≡ rootOf s
 unfolding secondRoot
 root-alone s below e = no-second s below (leb-true _ _ e)
 
 -- 7: every climb meets the root
-all-meet : (s : List ℕ) → cycle s .passes ≡ true → (v : ℕ) → v < length s → MeetsRoot s v
+all-meet : (s : List ℕ) → cycle 0 s .passes ≡ true → (v : ℕ) → v < length s → MeetsRoot s v
 unfolding cycle
 all-meet s e v h = record { steps = length s; meets = not-false _ (no-bad _ (length s) e v h) }
 
-meet-passes : (s : List ℕ) → Inside s → ((v : ℕ) → v < length s → MeetsRoot s v) → cycle s .passes ≡ true
+meet-passes : (s : List ℕ) → Inside s → ((v : ℕ) → v < length s → MeetsRoot s v) → cycle 0 s .passes ≡ true
 unfolding cycle
 meet-passes s inside all = none-bad _ (length s) (λ v h. ap not (meets-by-n s inside v h (all v h)))
 

@@ -2,7 +2,7 @@
 -- part whose climb does not meet the root, and the first cell of the lent tables that is not the sheet's own. A place is n or more where
 -- there is none, and the cell the tables' length. With it, what becomes of work.
 -- Assumes nothing.
-use Prim.Native.Nat.{ℕ, suc, _≤_, _<_}
+use Prim.Native.Nat.{ℕ, suc, _+_, _≤_, _<_}
 use native.Mathlib.Nat.{le-antisymm, le-of-eq, ne-of-lt, pos-of-ne-zero}
 use mathlib.Core.Path.{_≡_, refl, sym, ap, _∙_}
 use mathlib.Core.Logic.{_≢_}
@@ -14,7 +14,7 @@ use lib.ListN.{length, replicate}
 use Rattle.tree.specs.Scan.{least}
 use Rattle.tree.specs.Tree.{nextRoot, rootOf}
 use Rattle.tree.specs.Verdict.{Verdict, accepted, refused}
-use Rattle.tree.specs.Tests.{Test, testNumber, testPlace, verdict, empty, tooLarge, wrongLength, parentOutOfRange, noRoot, secondRoot, cycle, staleTable, limit, treeTests, sheetTests}
+use Rattle.tree.specs.Tests.{Test, testNumber, verdict, firstOutside, firstLost, empty, tooLarge, wrongLength, parentOutOfRange, noRoot, secondRoot, cycle, staleTable, limit, treeTests, sheetTests}
 use Rattle.tree.specs.Tables.{Lent, own, endToEnd}
 use Rattle.tree.specs.Sections.{firstDifference}
 use Rattle.tree.specs.Buffers.{workAfter, filled}
@@ -29,47 +29,48 @@ bad-passes bad n h = eq-eqb _ _ (le-antisymm (least-le bad n) h)
 pub bad-fails : (bad : ℕ → Bool) (n : ℕ) → least bad n < n → eqb (least bad n) n ≡ false
 bad-fails bad n h = ne-eqb _ _ (ne-of-lt h)
 
-module _ (s : List ℕ) where
+module _ (shift : ℕ) (s : List ℕ) where
   -- no entry is off the sheet; one part names itself; no other does
-  entries-pass : length s ≤ testPlace (parentOutOfRange s) → Passed (parentOutOfRange s ∷ [])
+  entries-pass : length s ≤ firstOutside s → Passed (parentOutOfRange shift s ∷ [])
   unfolding parentOutOfRange
   entries-pass h = (bad-passes _ (length s) h, tt)
 
-  root-passes : length s ≤ testPlace (parentOutOfRange s) → rootOf s < length s → Passed (parentOutOfRange s ∷ noRoot s ∷ [])
+  root-passes : length s ≤ firstOutside s → rootOf s < length s → Passed (parentOutOfRange shift s ∷ noRoot s ∷ [])
   unfolding noRoot
   root-passes h r = (entries-pass h .0, (lt-ltb _ _ r, tt))
 
-  alone-passes : length s ≤ testPlace (parentOutOfRange s) → rootOf s < length s → length s ≤ nextRoot s (suc (rootOf s))
-      → Passed (parentOutOfRange s ∷ noRoot s ∷ secondRoot s ∷ [])
+  alone-passes : length s ≤ firstOutside s → rootOf s < length s → length s ≤ nextRoot s (suc (rootOf s))
+      → Passed (parentOutOfRange shift s ∷ noRoot s ∷ secondRoot shift s ∷ [])
   unfolding secondRoot
   alone-passes h r a = (entries-pass h .0, (root-passes h r .1 .0, (le-leb _ _ a, tt)))
 
-  pub refused-out-of-range : testPlace (parentOutOfRange s) < length s → verdict (treeTests s) ≡ refused 4 (testPlace (parentOutOfRange s))
+  pub refused-out-of-range : firstOutside s < length s → verdict (treeTests shift s) ≡ refused 4 (shift + firstOutside s)
   unfolding parentOutOfRange
-  refused-out-of-range h = first-refused [] (parentOutOfRange s) _ tt (bad-fails _ (length s) h)
+  refused-out-of-range h = first-refused [] (parentOutOfRange shift s) _ tt (bad-fails _ (length s) h)
 
-  pub refused-no-root : length s ≤ testPlace (parentOutOfRange s) → length s ≤ rootOf s → verdict (treeTests s) ≡ refused 5 0
+  pub refused-no-root : length s ≤ firstOutside s → length s ≤ rootOf s → verdict (treeTests shift s) ≡ refused 5 0
   unfolding noRoot
-  refused-no-root h r = first-refused (parentOutOfRange s ∷ []) (noRoot s) _ (entries-pass h) (le-ltb _ _ r)
+  refused-no-root h r = first-refused (parentOutOfRange shift s ∷ []) (noRoot s) _ (entries-pass h) (le-ltb _ _ r)
 
-  pub refused-second-root : length s ≤ testPlace (parentOutOfRange s) → rootOf s < length s → nextRoot s (suc (rootOf s)) < length s
-      → verdict (treeTests s) ≡ refused 6 (nextRoot s (suc (rootOf s)))
+  pub refused-second-root : length s ≤ firstOutside s → rootOf s < length s → nextRoot s (suc (rootOf s)) < length s
+      → verdict (treeTests shift s) ≡ refused 6 (shift + nextRoot s (suc (rootOf s)))
   unfolding secondRoot
-  refused-second-root h r b = first-refused (parentOutOfRange s ∷ noRoot s ∷ []) (secondRoot s) _ (root-passes h r) (lt-leb _ _ b)
+  refused-second-root h r b = first-refused (parentOutOfRange shift s ∷ noRoot s ∷ []) (secondRoot shift s) _ (root-passes h r) (lt-leb _ _ b)
 
-  pub refused-cycle : length s ≤ testPlace (parentOutOfRange s) → rootOf s < length s → length s ≤ nextRoot s (suc (rootOf s)) → testPlace (cycle s) < length s
-      → verdict (treeTests s) ≡ refused 7 (testPlace (cycle s))
+  pub refused-cycle : length s ≤ firstOutside s → rootOf s < length s → length s ≤ nextRoot s (suc (rootOf s)) → firstLost s < length s
+      → verdict (treeTests shift s) ≡ refused 7 (shift + firstLost s)
   unfolding cycle
   refused-cycle h r a b =
-      first-refused (parentOutOfRange s ∷ noRoot s ∷ secondRoot s ∷ []) (cycle s) [] (alone-passes h r a) (bad-fails _ (length s) b)
+      first-refused (parentOutOfRange shift s ∷ noRoot s ∷ secondRoot shift s ∷ []) (cycle shift s) [] (alone-passes h r a) (bad-fails _ (length s) b)
 
-  pub accepted-tree-tests : length s ≤ testPlace (parentOutOfRange s) → rootOf s < length s → length s ≤ nextRoot s (suc (rootOf s)) → length s ≤ testPlace (cycle s)
-      → verdict (treeTests s) ≡ accepted
+  pub accepted-tree-tests : length s ≤ firstOutside s → rootOf s < length s → length s ≤ nextRoot s (suc (rootOf s)) → length s ≤ firstLost s
+      → verdict (treeTests shift s) ≡ accepted
   unfolding cycle
   accepted-tree-tests h r a c =
       let (p₄, (p₅, (p₆, _))) = alone-passes h r a in
-      passed-accepted (treeTests s) (p₄, (p₅, (p₆, (bad-passes _ (length s) c, tt))))
+      passed-accepted (treeTests shift s) (p₄, (p₅, (p₆, (bad-passes _ (length s) c, tt))))
 
+module _ (s : List ℕ) where
   -- ---- tests 1 to 3
 
   pub refused-empty : (buffer : ℕ) → length s ≡ 0 → verdict (sheetTests s buffer) ≡ refused 1 0
@@ -89,11 +90,11 @@ module _ (s : List ℕ) where
   refused-wrong-length buffer h l q = first-refused (empty (length s) ∷ tooLarge limit (length s) ∷ []) (wrongLength buffer) _ (sizes-pass h l) (ne-eqb _ _ q)
 
   -- where all three pass, tests 4 to 7 decide
-  pub tree-decides : (buffer : ℕ) → 0 < length s → length s ≤ limit → buffer ≡ 0 → verdict (sheetTests s buffer) ≡ verdict (treeTests s)
+  pub tree-decides : (buffer : ℕ) → 0 < length s → length s ≤ limit → buffer ≡ 0 → verdict (sheetTests s buffer) ≡ verdict (treeTests 0 s)
   unfolding wrongLength
   tree-decides buffer h l e =
       let (a, (b, _)) = sizes-pass h l in
-      passed-on (empty (length s) ∷ tooLarge limit (length s) ∷ wrongLength buffer ∷ []) (treeTests s) (a, (b, (eq-eqb _ _ e, tt)))
+      passed-on (empty (length s) ∷ tooLarge limit (length s) ∷ wrongLength buffer ∷ []) (treeTests 0 s) (a, (b, (eq-eqb _ _ e, tt)))
 
   -- a sheet of no part or of too many is refused whatever its buffers
   pub same-verdict : (a b : ℕ) → (0 < length s → length s ≤ limit → a ≡ b) → verdict (sheetTests s a) ≡ verdict (sheetTests s b)
@@ -161,9 +162,9 @@ work-cleared (t ∷ ts) work l =
 pub work-zero : (v : Verdict) (ts : List Test) (work : List ℕ) → v ≡ verdict ts → Later ts → workAfter v work ≡ replicate (length work) 0
 work-zero v ts work e l = rw e (work-cleared ts work l)
 
-pub tree-later : (s : List ℕ) → Later (treeTests s)
+pub tree-later : (shift : ℕ) (s : List ℕ) → Later (treeTests shift s)
 unfolding parentOutOfRange noRoot secondRoot cycle
-tree-later s = (lit< tt, (lit< tt, (lit< tt, (lit< tt, tt))))
+tree-later shift s = (lit< tt, (lit< tt, (lit< tt, (lit< tt, tt))))
 
 pub stale-later : (t : Lent) → Later (staleTable t ∷ [])
 unfolding staleTable

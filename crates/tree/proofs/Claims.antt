@@ -1,20 +1,24 @@
 -- What is shown of document 01's definitions, in its words: of every accepted sheet, and of no other input.
 -- Assumes nothing.
 use Prim.Native.Nat.{ℕ, _+_, _≤_, _<_}
+use native.Mathlib.Nat.{le-trans}
 use native.Mathlib.Omega.{arith}
 use mathlib.Core.Path.{_≡_, _∙_}
 use mathlib.Core.Logic.{_↔_}
-use mathlib.Core.List.{List, [], _∷_}
+use mathlib.Core.Bool.{false}
+use mathlib.Core.List.{List, [], _∷_, List·Memᴰ}
+use lib.Dec.{lit<}
 use lib.ListN.{length}
 use Rattle.tree.specs.Tree.{climb, Ancestor, rootOf, level, Tree}
 use Rattle.tree.specs.Lca.{Parts, Lca, lca}
 use Rattle.tree.specs.Tests.{limit, Accepted}
 use Rattle.tree.specs.Preorder.{Preorder, preorder, preorderNumber, size}
-use Rattle.tree.specs.Buffers.{labelCells, tourCells, liftCells}
+use Rattle.tree.specs.Buffers.{labelCells, tourCells, liftCells, workCells, Fit, tablesFits}
 use Rattle.tree.specs.Labels.{inlabel, topmost, labelTable}
 use Rattle.tree.specs.Tour.{tourTable}
 use Rattle.tree.specs.Lifts.{liftTable}
-use Rattle.tree.specs.Tables.{own}
+use Rattle.tree.specs.Tables.{Lent, own}
+use Rattle.tree.specs.Lending.{unfitOf}
 use Rattle.tree.specs.Routes.{byLabels, byTour}
 use Rattle.tree.specs.Trail.{trail, byLifts, lifts, liftCount}
 use Rattle.tree.proofs.Trees.{root-found, level-below, climb-level}
@@ -27,6 +31,7 @@ use Rattle.tree.proofs.Cells.{label-length, tour-table-length, lift-len
 use Rattle.tree.proofs.ByLabels.{labels-lca}
 use Rattle.tree.proofs.ByTour.{tour-lca}
 use Rattle.tree.proofs.ByLifts.{lifts-lca, lifts-count}
+use Rattle.tree.proofs.Fits.{unfit-lowest, lower-first, lower-further}
 use Rattle.tree.proofs.Acceptance.{accepted-tree, tree-accepted}
 
 -- "With buffers that fit, a sheet of 1 to 16,384 parts is accepted exactly if it is one rooted tree", which has at least its root
@@ -65,6 +70,18 @@ pub own-tables-fit : (s : List ℕ) → Accepted s
 own-tables-fit s e =
     let t = accepted-tree s e .0 in
     (label-length s, tour-table-length s (tour-length t), lift-length s)
+
+-- "misfit .. lowest buffer below": where a table or work does not fit, or a buffer of the call's own, that or a lower one is named
+pub misfit-lowest : (t : Lent) (work : List ℕ) (further : ℕ) (b : Fit)
+    → List·Memᴰ b (tablesFits (length (t .parents)) (length (t .label)) (length (t .tour)) (length (t .lift)) (workCells (length (t .parents))) (length work))
+    → b .fits ≡ false → (0 < unfitOf t work further) × (unfitOf t work further ≤ b .buffer)
+misfit-lowest t work further b m e =
+    let (some, most) = unfit-lowest 0 _ (lit< tt, (lit< tt, (lit< tt, (lit< tt, tt)))) b m e in
+    let (named, low) = lower-first _ further some in
+    (named, le-trans low most)
+
+pub misfit-further : (t : Lent) (work : List ℕ) (further : ℕ) → 0 < further → (0 < unfitOf t work further) × (unfitOf t work further ≤ further)
+misfit-further t work further some = lower-further _ further some
 
 -- each of the three rules, on an accepted sheet's own tables, gives the carrier of two parts: so they agree
 pub rules-agree : (s : List ℕ) → Accepted s → (x y : ℕ) → x < length s → y < length s

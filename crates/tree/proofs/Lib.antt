@@ -44,6 +44,9 @@ pub mod Answers
 pub mod Fits
 pub mod Acceptance
 pub mod Questions
+pub mod Stages
+pub mod Pairs
+pub mod Owning
 -- what is shown
 pub mod Claims
 pub mod Known

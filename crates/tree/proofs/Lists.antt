@@ -85,7 +85,8 @@ position-member : (xs : List ℕ) (group : ℕ → ℕ) (i : ℕ) → i < length
 unfolding members
 position-member xs group i h =
     Memᴰ·map (λ (j : ℕ). getD xs j 0)
-    (member-keep (λ j. eqb (group j) (group i)) (numbersFrom 0 (length xs)) i (member-numbers 0 (length xs) i (omega arith) (omega arith)) (eq-eqb (group i) (group i) refl))
+    (member-keep (λ j. eqb (group j) (group i)) (numbersFrom 0 (length xs)) i (member-numbers 0 (length xs) i (omega arith) (omega arith))
+    (eq-eqb (group i) (group i) refl))
 
 -- no group is empty
 pub members-some : (xs : List ℕ) (m : ℕ) (group : ℕ → ℕ) → SharedOut xs m group → (g : ℕ) → g < m → 0 < length (members xs group g)

@@ -11,7 +11,7 @@ use lib.Dec.{leb}
 use lib.ListN.{length, getD}
 use Rattle.tree.specs.Scan.{least}
 use Rattle.tree.specs.Tree.{parent, climb, isRoot, nextRoot}
-use Rattle.tree.specs.Tests.{testPlace, parentOutOfRange, cycle}
+use Rattle.tree.specs.Tests.{firstOutside, firstLost}
 use Rattle.tree.proofs.Scans.{least-found, least-before}
 use Rattle.tree.proofs.Climbs.{Inside}
 use Rattle.tree.proofs.Roots.{next-root-found}
@@ -22,13 +22,12 @@ pub first-from : (l : List ℕ) (bound r : ℕ) → r ≤ length l → ((j : ℕ
 first-from l bound r h before here = least-found _ (length l) r h (λ j b. lt-leb _ _ (before j b)) (λ b. le-leb _ _ (here b))
 
 -- 4: the lowest part whose entry is n or more
-pub out-of-range-place : (s : List ℕ) (r : ℕ) → r ≡ least (λ i. leb (length s) (getD s i 0)) (length s) → r ≡ testPlace (parentOutOfRange s)
-unfolding parentOutOfRange parent
+pub out-of-range-place : (s : List ℕ) (r : ℕ) → r ≡ least (λ i. leb (length s) (getD s i 0)) (length s) → r ≡ firstOutside s
+unfolding parent
 out-of-range-place s r e = e
 
 -- .. where there is none, every entry is a part
-pub entries-inside-place : (s : List ℕ) → length s ≤ testPlace (parentOutOfRange s) → Inside s
-unfolding parentOutOfRange
+pub entries-inside-place : (s : List ℕ) → length s ≤ firstOutside s → Inside s
 entries-inside-place s h v b = leb-false (length s) (parent s v) (least-before _ (length s) v (lt-of-lt-of-le b h))
 
 -- 5 and 6: the lowest part that names itself, from a part on
@@ -39,6 +38,5 @@ next-root-place s first r h from to before here = next-root-found h (record { fr
 
 -- 7: the lowest part whose climb does not meet the root
 pub cycle-place : (s : List ℕ) (r : ℕ) → r ≤ length s → ((j : ℕ) → j < r → isRoot s (climb s (length s) j) ≡ true)
-    → (r < length s → isRoot s (climb s (length s) r) ≡ false) → r ≡ testPlace (cycle s)
-unfolding cycle
+    → (r < length s → isRoot s (climb s (length s) r) ≡ false) → r ≡ firstLost s
 cycle-place s r h before here = least-found _ (length s) r h (λ j b. ap not (before j b)) (λ b. ap not (here b))

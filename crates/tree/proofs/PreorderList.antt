@@ -55,7 +55,8 @@ unfolding eachChild
 from-child s v visit zero x m = absurd (List·Memᴰ·not-nil m)
 from-child s v visit (suc i) x m =
     let earlier = from-child s v visit i x in
-    let wider : FromChild s v visit i x → FromChild s v visit (suc i) x = λ r. record { child = r .child; below = omega (arith, r .below); is = r .is; member = r .member } in
+    let wider : FromChild s v visit i x → FromChild s v visit (suc i) x =
+    λ r. record { child = r .child; below = omega (arith, r .below); is = r .is; member = r .member } in
     by-test (isChild s v i)
     (λ e. ⊎-elim (λ n. wider (earlier n)) (λ n. record { child = i; below = lt-suc-self i; is = test-child s v i e; member = n })
     (List·Memᴰ·append-cases (eachChild s v visit i) (subst (List·Memᴰ x) (each-child s v visit i e) m)))

@@ -3,7 +3,7 @@
 use Prim.Native.Nat.{ℕ, _+_, _-_, _*_, _%_, _/_}
 use mathlib.Core.Bool.{Bool, cond}
 use mathlib.Core.List.{List, [], _∷_}
-use lib.Dec.{leb, eqb}
+use lib.Dec.{leb, ltb, eqb}
 use lib.ListN.{length, replicate}
 use Rattle.bits.specs.Bits.{log2}
 use Rattle.tree.specs.Verdict.{Verdict, accepted, refused}
@@ -38,6 +38,14 @@ workCells n = 4 * n
 abbrev pub trailCells : ℕ
 trailCells = 64
 
+-- the cells of a pair's answer: its carrier
+abbrev pub answerWidth : ℕ
+answerWidth = 1
+
+-- the answer to the pairs of a question of so many cells
+abbrev pub answerCells : ℕ → ℕ
+answerCells question = question / 2 * answerWidth
+
 -- ---- fit
 
 -- a lent buffer's number, and whether the buffer has its exact length
@@ -45,45 +53,72 @@ pub record Fit : Type 0 where
   pub buffer : ℕ
   pub fits : Bool
 
--- 1 label, 2 tour, 3 lift, 4 work, each by its length
+-- the buffer of this number is to have `want` cells, and has `cells`
+abbrev pub exactFit : ℕ → ℕ → ℕ → Fit
+exactFit buffer want cells = record { buffer = buffer; fits = eqb cells want }
+
+-- 1 label, 2 tour, 3 lift, of a sheet of n parts
 abbrev pub labelFit : ℕ → ℕ → Fit
-labelFit n cells = record { buffer = 1; fits = eqb cells (labelCells n) }
+labelFit n = exactFit 1 (labelCells n)
 
 abbrev pub tourFit : ℕ → ℕ → Fit
-tourFit n cells = record { buffer = 2; fits = eqb cells (tourCells n) }
+tourFit n = exactFit 2 (tourCells n)
 
 abbrev pub liftFit : ℕ → ℕ → Fit
-liftFit n cells = record { buffer = 3; fits = eqb cells (liftCells n) }
+liftFit n = exactFit 3 (liftCells n)
 
+-- 4 work, of the length that the call wants
 abbrev pub workFit : ℕ → ℕ → Fit
-workFit n cells = record { buffer = 4; fits = eqb cells (workCells n) }
+workFit want = exactFit 4 want
 
 -- 5 question: "an even count for pairs; exactly two cells for a trail; free for a list"
-abbrev pub pairsFit : ℕ → Fit
-pairsFit cells = record { buffer = 5; fits = eqb (cells % 2) 0 }
+abbrev pub pairsQuestionFit : ℕ → Fit
+pairsQuestionFit cells = record { buffer = 5; fits = eqb (cells % 2) 0 }
 
-abbrev pub pairFit : ℕ → Fit
-pairFit cells = record { buffer = 5; fits = eqb cells 2 }
+abbrev pub trailQuestionFit : ℕ → Fit
+trailQuestionFit = exactFit 5 2
 
 -- 6 answer: "one cell per pair, one for a list or trail"
 abbrev pub pairsAnswerFit : ℕ → ℕ → Fit
-pairsAnswerFit question cells = record { buffer = 6; fits = eqb cells (question / 2) }
+pairsAnswerFit question = exactFit 6 (answerCells question)
 
 abbrev pub answerFit : ℕ → Fit
-answerFit cells = record { buffer = 6; fits = eqb cells 1 }
+answerFit = exactFit 6 1
 
 -- 7 trail
 abbrev pub trailFit : ℕ → Fit
-trailFit cells = record { buffer = 7; fits = eqb cells trailCells }
-
--- the further buffers of a call, as it has found them: the lowest that does not fit, or 0
-abbrev pub furtherFit : ℕ → Fit
-furtherFit unfit = record { buffer = unfit; fits = eqb unfit 0 }
+trailFit = exactFit 7 trailCells
 
 -- the first of the lent buffers, listed by rising number, that does not fit; 0 where all fit
 unfoldable pub firstUnfit : List Fit → ℕ
 firstUnfit [] = 0
 firstUnfit (b ∷ bs) = cond (b .fits) (firstUnfit bs) (b .buffer)
+
+-- of two lists' first the lower number, whichever list it is of; 0 where neither has one
+abbrev pub lowerUnfit : ℕ → ℕ → ℕ
+lowerUnfit a b = cond (eqb b 0) a (cond (eqb a 0) b (cond (ltb b a) b a))
+
+-- ---- what a call is lent, by its lengths: each buffer in rising number
+
+-- a sheet without tables: work, of the length that the call wants
+abbrev pub sheetFits : ℕ → ℕ → List Fit
+sheetFits want work = workFit want work ∷ []
+
+-- a sheet of n parts with its tables, and work
+abbrev pub tablesFits : (n label tour lift want work : ℕ) → List Fit
+tablesFits n label tour lift want work = labelFit n label ∷ tourFit n tour ∷ liftFit n lift ∷ sheetFits want work
+
+-- a question of pairs
+abbrev pub pairsFits : ℕ → ℕ → List Fit
+pairsFits question answer = pairsQuestionFit question ∷ pairsAnswerFit question answer ∷ []
+
+-- a pair that is traced
+abbrev pub trailFits : ℕ → ℕ → ℕ → List Fit
+trailFits question answer rows = trailQuestionFit question ∷ answerFit answer ∷ trailFit rows ∷ []
+
+-- a list of parts
+abbrev pub listFits : ℕ → List Fit
+listFits answer = answerFit answer ∷ []
 
 -- ---- afterwards
 

@@ -16,8 +16,11 @@ pub mod Trail
 -- "Numbers on the operator's screen"
 pub mod Verdict
 pub mod Tests
+pub mod Buffers
+pub mod Lending
+pub mod Answered
 pub mod Ready
 pub mod Nodes
-pub mod Buffers
+pub mod Pairs
 -- "Known sheets"
 pub mod Known

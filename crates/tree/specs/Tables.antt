@@ -2,6 +2,7 @@
 -- Assumes nothing.
 use Prim.Native.Nat.{ℕ}
 use mathlib.Core.List.{List, _++_}
+use denote.Ref.{RefT, now}
 use Rattle.tree.specs.Labels.{labelTable}
 use Rattle.tree.specs.Tour.{tourTable}
 use Rattle.tree.specs.Lifts.{liftTable}
@@ -12,6 +13,10 @@ pub record Lent : Type 0 where
   pub label : List ℕ
   pub tour : List ℕ
   pub lift : List ℕ
+
+-- what a call is lent, from its references
+abbrev pub lentBy : (parents label tour lift : RefT (List ℕ)) → Lent
+lentBy parents label tour lift = record { parents = now parents; label = now label; tour = now tour; lift = now lift }
 
 -- "Its own tables hold in every cell what is defined .. from that sheet"
 abbrev pub own : List ℕ → Lent

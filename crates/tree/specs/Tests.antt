@@ -1,7 +1,7 @@
 -- The operator's table (document 01, "Numbers on the operator's screen"): its rows 1 to 11 as data, and the first that fails.
 -- Row 12, "illegible", is about lines of text, and stands with the program's forms.
 -- Assumes nothing.
-use Prim.Native.Nat.{ℕ, suc}
+use Prim.Native.Nat.{ℕ, suc, _+_}
 use mathlib.Core.Path.{_≡_}
 use mathlib.Core.Bool.{Bool, cond, not}
 use mathlib.Core.List.{List, [], _∷_, _++_}
@@ -49,23 +49,38 @@ tooLarge limit n = record { passes = leb n limit; why = TooLarge }
 unfoldable pub wrongLength : ℕ → Test
 wrongLength buffer = record { passes = eqb buffer 0; why = WrongLength buffer }
 
--- 4 "off sheet": an entry is n or more, at the lowest such part
-unfoldable pub parentOutOfRange : List ℕ → Test
-parentOutOfRange s = lowestBad ParentOutOfRange (λ v. leb (length s) (parent s v)) (length s)
+-- the entry of part v is n or more
+abbrev pub outside : List ℕ → ℕ → Bool
+outside s v = leb (length s) (parent s v)
+
+-- the climb from part v never meets the root: one that has not met it after n steps never does
+abbrev pub lost : List ℕ → ℕ → Bool
+lost s v = not (isRoot s (climb s (length s) v))
+
+-- the lowest such part; n where there is none
+abbrev pub firstOutside : List ℕ → ℕ
+firstOutside s = least (outside s) (length s)
+
+abbrev pub firstLost : List ℕ → ℕ
+firstLost s = least (lost s) (length s)
+
+-- 4 "off sheet": an entry is n or more, at the lowest such part. A call may count a sheet's parts from `shift` on; others do from 0
+unfoldable pub parentOutOfRange : ℕ → List ℕ → Test
+parentOutOfRange shift s = lowestBad (λ v. ParentOutOfRange (shift + v)) (outside s) (length s)
 
 -- 5 "rootless": no part names itself
 unfoldable pub noRoot : List ℕ → Test
 noRoot s = record { passes = ltb (rootOf s) (length s); why = NoRoot }
 
 -- 6 "second root": two or more name themselves, at the second lowest of them
-unfoldable pub secondRoot : List ℕ → Test
-secondRoot s =
+unfoldable pub secondRoot : ℕ → List ℕ → Test
+secondRoot shift s =
     let second = nextRoot s (suc (rootOf s)) in
-    record { passes = leb (length s) second; why = SecondRoot second }
+    record { passes = leb (length s) second; why = SecondRoot (shift + second) }
 
--- 7 "loop": a part's climb never meets the root, at the lowest such part. A climb that has not met it after n steps never does
-unfoldable pub cycle : List ℕ → Test
-cycle s = lowestBad Cycle (λ v. not (isRoot s (climb s (length s) v))) (length s)
+-- 7 "loop": a part's climb never meets the root, at the lowest such part
+unfoldable pub cycle : ℕ → List ℕ → Test
+cycle shift s = lowestBad (λ v. Cycle (shift + v)) (lost s) (length s)
 
 -- 8 "stale": a cell of a lent table isn't this sheet's, at the first such cell from 0, the lent tables end to end
 unfoldable pub staleTable : Lent → Test
@@ -77,9 +92,14 @@ staleTable t =
 unfoldable pub nothingListed : List ℕ → Test
 nothingListed question = record { passes = ltb 0 (length question); why = NothingListed }
 
--- 10 "no such part": a listed number is n or more, at the first such position, from 0
-unfoldable pub nodeOutOfRange : List ℕ → List ℕ → Test
-nodeOutOfRange s question = lowestBad NodeOutOfRange (λ i. leb (length s) (getD question i 0)) (length question)
+-- the number at position i of a question is n or more
+abbrev pub offSheet : List ℕ → List ℕ → ℕ → Bool
+offSheet s question i = leb (length s) (getD question i 0)
+
+-- 10 "no such part": a listed number is n or more, at the first such position, from 0. A call that lists other numbers before its question counts the
+-- question's positions from `first` on; others do from 0
+unfoldable pub nodeOutOfRange : List ℕ → ℕ → List ℕ → Test
+nodeOutOfRange s first question = lowestBad (λ i. NodeOutOfRange (first + i)) (offSheet s question) (length question)
 
 -- 11 "adrift": listed parts have no common carrier
 unfoldable pub noCommonAncestor : List ℕ → List ℕ → Test
@@ -89,25 +109,25 @@ noCommonAncestor s question = record { passes = ltb (least (isCommon s question)
 abbrev pub limit : ℕ
 limit = 16384
 
--- the tests that a sheet is one rooted tree, 4 to 7
-abbrev pub treeTests : List ℕ → List Test
-treeTests s = parentOutOfRange s ∷ noRoot s ∷ secondRoot s ∷ cycle s ∷ []
+-- the tests that a sheet is one rooted tree, 4 to 7, its parts counted from `shift` on
+abbrev pub treeTests : ℕ → List ℕ → List Test
+treeTests shift s = parentOutOfRange shift s ∷ noRoot s ∷ secondRoot shift s ∷ cycle shift s ∷ []
 
 -- the tests of a sheet, 1 to 7, of a call whose lowest buffer that does not fit is `buffer`
 abbrev pub sheetTests : List ℕ → ℕ → List Test
-sheetTests s buffer = empty (length s) ∷ tooLarge limit (length s) ∷ wrongLength buffer ∷ treeTests s
+sheetTests s buffer = empty (length s) ∷ tooLarge limit (length s) ∷ wrongLength buffer ∷ treeTests 0 s
 
 -- the tests of a sheet with lent tables, 1 to 8
 abbrev pub lentTests : Lent → ℕ → List Test
 lentTests t buffer = sheetTests (t .parents) buffer ++ (staleTable t ∷ [])
 
--- the tests of a question, 9 to 11
-abbrev pub questionTests : List ℕ → List ℕ → List Test
-questionTests s question = nothingListed question ∷ nodeOutOfRange s question ∷ noCommonAncestor s question ∷ []
+-- the tests of a question, 9 to 11, its positions counted from `first` on
+abbrev pub questionTests : List ℕ → ℕ → List ℕ → List Test
+questionTests s first question = nothingListed question ∷ nodeOutOfRange s first question ∷ noCommonAncestor s question ∷ []
 
 -- the tests of a call that answers a question, 1 to 11
 abbrev pub askedTests : Lent → ℕ → List ℕ → List Test
-askedTests t buffer question = lentTests t buffer ++ questionTests (t .parents) question
+askedTests t buffer question = lentTests t buffer ++ questionTests (t .parents) 0 question
 
 -- a sheet that is accepted where the buffers fit
 abbrev pub Accepted : List ℕ → Type 0

@@ -39,7 +39,16 @@ abbrev pub verdictOf : Outcome → Verdict
 verdictOf Accepted = accepted
 verdictOf (Refused r) = refused (numberOf r) (placeOf r)
 
--- a pair that was traced, with the count of its lifts, or the number and the place of its refusal, which counts none
+-- a trail's answer as an outcome
+abbrev pub told : Traced → Outcome
+told (traced.Lifts count) = Accepted
+told (traced.Refused r) = Refused r
+
+-- the count of its lifts; a refusal counts none
+abbrev pub liftsOf : Traced → ℕ
+liftsOf (traced.Lifts count) = count
+liftsOf (traced.Refused r) = 0
+
+-- both: a pair that was traced, with the count of its lifts, or the number and the place of its refusal, which counts none
 abbrev pub tracedOf : Traced → Verdict × ℕ
-tracedOf (traced.Lifts count) = (accepted, count)
-tracedOf (traced.Refused r) = (refused (numberOf r) (placeOf r), 0)
+tracedOf r = (verdictOf (told r), liftsOf r)
