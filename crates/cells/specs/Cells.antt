@@ -23,3 +23,7 @@ pub record Agree (a : List ℕ) (i : ℕ) (b : List ℕ) (j k r : ℕ) : Type 0 
   pub most : r ≤ k
   pub same : Same a i b j r
   pub parts : r < k → getD a (i + r) 0 ≢ getD b (j + r) 0
+
+-- the k cells of a table from i on are equal in the first r to those of the sheet's own that stand there, and no further
+abbrev pub AgreeAt : List ℕ → List ℕ → ℕ → ℕ → ℕ → Type 0
+AgreeAt table own i k r = Agree table i own i k r

@@ -1,9 +1,9 @@
-// Stretches of cells: filling one, copying one from another buffer, finding the first cell in which two differ, and the first that is too large.
+// Stretches of cells: filling one, or all, copying one from another buffer, finding the first cell in which two differ, and the first that is too large.
 
 ghost use mathlib.Core.Path.{_≡_};
 ghost use Prim.Native.Nat.{ℕ, _+_, _≤_, _<_};
 ghost use lib.Dec.{leb};
-ghost use lib.ListN.{length, getD};
+ghost use lib.ListN.{length, getD, replicate};
 ghost use Rattle.tree.specs.Scan.{least};
 ghost use Rattle.tree.specs.Sections.{Same};
 ghost use Rattle.cells.specs.Cells.{Filled, Copied, Agree};
@@ -18,6 +18,14 @@ pub fn fill(cells: &mut [u16], first: usize, count: usize, value: u16)
         cells[first + i] = value;
         i += 1;
     }
+}
+
+// Stores `value` in every cell.
+pub fn fill_all(cells: &mut [u16], value: u16)
+    ensures { λ _. ⌜ now (cells .exit) ≡ replicate (length (now (cells .entry))) value ⌝ }
+{
+    let n = cells.len();
+    fill(cells, 0, n, value);
 }
 
 // Copies the `count` cells of `from` from `start` on to `to`, from `at` on.

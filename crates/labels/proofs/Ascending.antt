@@ -1,10 +1,10 @@
 -- ASCENDANT of the root, and of a node below it from the cells that hold its parent's and the two INLABELs.
 -- Assumes nothing.
-use Prim.Native.Nat.{ℕ, _+_, _*_, _^_, _%_, _≤_}
-use native.Mathlib.Nat.{one-mul, mod-eq-of-lt, pow-suc}
+use Prim.Native.Nat.{ℕ, _+_, _*_, _^_, _%_, _≤_, zero-le}
+use native.Mathlib.Nat.{le-refl, add-zero, one-mul, mod-eq-of-lt, pow-suc}
 use native.Mathlib.Omega.{arith}
-use mathlib.Core.Path.{_≡_, sym, _∙_}
-use mathlib.Core.Bool.{cond}
+use mathlib.Core.Path.{_≡_, refl, sym, _∙_}
+use mathlib.Core.Bool.{Bool, true, false, cond}
 use mathlib.Core.List.{List}
 use borrow.Author.Tests.{eq-eqb, ne-eqb}
 use lib.Dec.{eqb}
@@ -18,6 +18,16 @@ use Rattle.tree.proofs.Scans.{by-equal}
 use Rattle.tree.proofs.Paths.{ascendant-root, ascendant-step, ascendant-below}
 use Rattle.labels.proofs.Labelled.{labelled}
 use Rattle.labels.proofs.InOrder.{Below}
+
+-- a bit that is added or not: at most the bit
+pub chosen-most : (b : Bool) (y : ℕ) → cond b 0 y ≤ y
+chosen-most true y = zero-le
+chosen-most false y = le-refl y
+
+-- .. and the choice may be made after it is added
+pub add-chosen : (b : Bool) (x y : ℕ) → x + cond b 0 y ≡ cond b x (x + y)
+add-chosen true x y = add-zero x
+add-chosen false x y = refl
 
 -- 2^l, l = log n, fits a cell
 power-fits : {s work : List ℕ} → Ready s work → 2 ^ log2 (length s) ≤ 16384

@@ -4,7 +4,7 @@ use Prim.Native.Nat.{ℕ, suc, _+_, _-_, _≤_, _<_}
 use native.Mathlib.Nat.{zero-add}
 use native.Mathlib.Omega.{arith}
 use mathlib.Core.Path.{_≡_, refl, sym, ap, _∙_}
-use mathlib.Core.Logic.{_≢_, inl, inr}
+use mathlib.Core.Logic.{_≢_, _⊎_, inl, inr}
 use mathlib.Core.List.{List}
 use lib.ListN.{length, getD, set}
 use lib.Seq.{getD-set-other}
@@ -42,6 +42,11 @@ pub listed-start : {s work : List ℕ} → length work ≡ workCells (length s) 
 listed-start long = record { room = long; cell = λ i h b. absurd (omega arith) }
 
 module _ {s : List ℕ} (t : Tree s) where
+  -- with it come those numbered up to i + 1
+  pub at-next : {v i : ℕ} → At s v i → (x : ℕ) → x < length s → preorderNumber s x ≤ i + 1 → (x ≡ v) ⊎ (preorderNumber s x ≤ i)
+  at-next {v} {i} at x h b =
+      by-equal (preorderNumber s x) (suc i) (λ g. inl (preorder-injective t x v h (at .node) (g ∙ sym (at .number)))) (λ g. inr (omega arith))
+
   -- ---- the list
 
   -- the node of the next turn
@@ -101,8 +106,7 @@ module _ {s : List ℕ} (t : Tree s) where
       let here : At s v i = along-at i (a .order) h in
       record {
         order = record { cell = λ x b. getD-set-other work (length s + v) (0 + x) y 0 (λ g. absurd (omega arith)) ∙ a .order .cell x b };
-        made = filling-store (a .made) v refl (omega arith) e
-            (λ x b k. by-equal (preorderNumber s x) (suc i) (λ g. inl (preorder-injective t x v b (here .node) (g ∙ sym (here .number)))) (λ g. inr (omega arith)));
+        made = filling-store (a .made) v refl (omega arith) e (at-next here);
       }
 
   -- all nodes are made

@@ -1,6 +1,9 @@
 -- Laws about this crate's loops. Assumes nothing.
+-- a node and its parent
+pub mod Parents
 -- the links and the walk
 pub mod Linking
+pub mod NextNode
 pub mod Walking
 -- the sums that tell PREORDER and SIZE
 pub mod Summing

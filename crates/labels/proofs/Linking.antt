@@ -3,7 +3,7 @@
 use Prim.Native.Nat.{ℕ, suc, _+_, _-_, _*_, _≤_, _<_, zero-le}
 use native.Mathlib.Nat.{sub-self}
 use native.Mathlib.Omega.{arith}
-use mathlib.Core.Path.{_≡_, refl, sym, ap, _∙_}
+use mathlib.Core.Path.{_≡_, sym, ap, _∙_}
 use mathlib.Core.Logic.{_≢_}
 use mathlib.Core.Bool.{Bool, true, false, cond}
 use mathlib.Core.List.{List}
@@ -15,11 +15,12 @@ use Rattle.tree.specs.Preorder.{isChild}
 use Rattle.tree.specs.Ready.{Ready}
 use Rattle.tree.proofs.Scans.{by-equal, by-test}
 use Rattle.tree.proofs.Roots.{is-root, root-is}
-use Rattle.tree.proofs.PreorderList.{child-test, test-child}
+use Rattle.tree.proofs.PreorderList.{child-test}
 use Rattle.tree.proofs.Columns.{ready-kept}
 use Rattle.tree.proofs.Differences.{store-here}
 use Rattle.cells.specs.Cells.{Filled}
 use Rattle.labels.specs.Walk.{lowestChild, nextSibling, Links}
+use Rattle.labels.proofs.Parents.{own-child, other-child, root-child}
 
 -- the links once the nodes from i on have been passed: a node that has not been passed has no next sibling yet
 pub record Linking (s work : List ℕ) (i : ℕ) : Type 0 where
@@ -65,13 +66,12 @@ pub linking-root : {s work : List ℕ} {i : ℕ} → i < length s → parent s i
 linking-root {s} {work} {i} h e l = record {
   ready = l .ready;
   child = λ v b.
-      l .child v b
-      ∙ sym
-      (lowest-later s v i h
-      (by-test (isChild s v i) (λ c. let k = test-child s v i c in absurd (k .other (sym e ∙ k .of))) (λ c. c)));
+      l .child v b ∙ sym (lowest-later s v i h (root-child s v i e));
   next = λ v a b.
       by-equal v i
-      (λ q. l .blank v (omega arith) b ∙ ap (λ (r : Bool). cond r (length s) (lowestChild s (parent s v) (suc v))) (sym (is-root s v (ap (parent s) q ∙ e ∙ sym q))))
+      (λ q.
+      l .blank v (omega arith) b
+      ∙ ap (λ (r : Bool). cond r (length s) (lowestChild s (parent s v) (suc v))) (sym (is-root s v (ap (parent s) q ∙ e ∙ sym q))))
       (λ q. l .next v (omega arith) b);
   blank = λ v a b. l .blank v (omega arith) b;
 }
@@ -86,7 +86,7 @@ linking-child {s} {work} {i} h hp e l =
     let in-work : length s + i < length work = omega arith in
     let in-first : p < length first = rw length-set (omega arith) in
     let not-root : isRoot s i ≡ false = by-test (isRoot s i) (λ r. absurd (e (root-is s i r))) (λ r. r) in
-    let is : isChild s p i ≡ true = child-test (record { of = refl; other = λ q. e (sym q) }) in
+    let is : isChild s p i ≡ true = child-test (own-child e) in
     record {
       ready = ready-kept (l .ready) (length-set first p i ∙ length-set work (length s + i) _);
       child = λ v b.
@@ -94,7 +94,7 @@ linking-child {s} {work} {i} h hp e l =
           (λ q. store-here first p i v _ in-first q (sym (lowest-here s v i h (ap (λ (u : ℕ). isChild s u i) q ∙ is))))
           (λ q.
           getD-set-other first p v i 0 q ∙ getD-set-other work (length s + i) v _ 0 (λ g. absurd (omega arith)) ∙ l .child v b
-          ∙ sym (lowest-later s v i h (by-test (isChild s v i) (λ c. absurd (q (sym (test-child s v i c .of)))) (λ c. c))));
+          ∙ sym (lowest-later s v i h (other-child s v i q)));
       next = λ v a b.
           getD-set-other first p (length s + v) i 0 (λ g. absurd (omega arith))
           ∙ by-equal v i

@@ -1,27 +1,27 @@
 -- The sums by which a lent label table's PREORDER and SIZE are told to be the sheet's own.
 -- Assumes nothing.
 use Prim.Native.Nat.{ℕ, zero, suc, _+_, _*_, _≤_, _<_, zero-le}
-use native.Mathlib.Nat.{zero-add, zero-mul, one-mul, le-suc}
+use native.Mathlib.Nat.{zero-add, le-suc}
 use native.Mathlib.Omega.{arith}
-use mathlib.Core.Path.{_≡_, refl, sym, ap, _∙_}
+use mathlib.Core.Path.{_≡_, sym, ap, _∙_}
 use mathlib.Core.Logic.{_≢_}
 use mathlib.Core.Bool.{false}
-use lib.Dec.{lit<}
 use mathlib.Core.List.{List}
 use lib.ListN.{length, getD, set}
 use Rattle.tree.specs.Tree.{Tree, parent, level, rootOf}
 use Rattle.tree.specs.Preorder.{isChild, childSum, preorderNumber, size}
 use Rattle.tree.specs.Labels.{labelTable}
 use Rattle.tree.specs.Sections.{Same}
-use Rattle.tree.proofs.Scans.{by-equal, by-test, by-order}
-use Rattle.tree.proofs.Trees.{level-below, level-parent, from-root, root-found}
-use Rattle.tree.proofs.PreorderList.{Child, child-test, test-child}
+use Rattle.tree.proofs.Scans.{by-equal}
+use Rattle.tree.proofs.Trees.{level-below, level-parent}
+use Rattle.tree.proofs.PreorderList.{Child, child-test}
 use Rattle.tree.proofs.Sums.{sum-child, sum-gap, sum-zero, sum-same}
 use Rattle.tree.proofs.Sizes.{size-sum, preorder-root, preorder-child}
-use Rattle.tree.proofs.Differences.{store-either, same-join}
-use Rattle.tree.proofs.Columns.{column-same}
+use Rattle.tree.proofs.Differences.{store-either}
 use Rattle.cells.specs.Cells.{Filled}
 use Rattle.labels.specs.Sums.{sizeIn, sumIn, Sums, Numbered}
+use Rattle.labels.proofs.Labelled.{two-columns}
+use Rattle.labels.proofs.Parents.{not-itself, own-child, other-child, root-child, root-down}
 
 -- ---- the sums, node by node
 
@@ -38,10 +38,7 @@ sum-stays s label p i e =
 
 -- .. as the root is of none
 pub sums-root : {s label work : List ℕ} {r : ℕ} → parent s r ≡ r → Sums s label work r → Sums s label work (suc r)
-sums-root {s} {label} {work} {r} e w = record { sum = λ p h. w .sum p h ∙ sym (sum-stays s label p r (no-child p)) }
-  where
-    no-child : (p : ℕ) → isChild s p r ≡ false
-    no-child p = by-test (isChild s p r) (λ c. let k = test-child s p r c in absurd (k .other (sym e ∙ k .of))) (λ c. c)
+sums-root {s} {label} {work} {r} e w = record { sum = λ p h. w .sum p h ∙ sym (sum-stays s label p r (root-child s p r e)) }
 
 pub sums-more : {s label work : List ℕ} {v : ℕ} → length s ≤ length work → parent s v < length s → parent s v ≢ v → Sums s label work v
     → Sums s label (set work (parent s v) (getD work (parent s v) 0 + sizeIn s label v)) (suc v)
@@ -49,14 +46,14 @@ sums-more {s} {label} {work} {v} room inside q w = record {
   sum = λ p h.
       store-either work (parent s v) _ p (sumIn s label p (suc v)) (omega arith)
       (λ e. rw e grown)
-      (λ e. w .sum p h ∙ sym (sum-stays s label p v (by-test (isChild s p v) (λ c. absurd (e (sym (test-child s p v c .of)))) (λ c. c))));
+      (λ e. w .sum p h ∙ sym (sum-stays s label p v (other-child s p v e)));
 }
   where
     grown : getD work (parent s v) 0 + sizeIn s label v ≡ sumIn s label (parent s v) (suc v)
     grown =
         let u = parent s v in
         let f = sizeIn s label in
-        let step : childSum s u f (suc v) ≡ childSum s u f v + f v = sum-child s u f v (child-test (record { of = refl; other = λ e. q (sym e) })) in
+        let step : childSum s u f (suc v) ≡ childSum s u f v + f v = sum-child s u f v (child-test (own-child q)) in
         omega (arith, w .sum u inside)
 
 -- PREORDER follows them, one node further
@@ -82,49 +79,22 @@ module _ {s : List ℕ} (t : Tree s) (label : List ℕ) where
   sizes-up each (suc d) v h b =
       let earlier = sizes-up each d in
       let children : (c : ℕ) → c < length s → Child s v c → sizeIn s label c ≡ size s c = λ c below is.
-      let deeper = level-parent t c below (λ e. is .other (sym e ∙ is .of)) in
+      let deeper = level-parent t c below (not-itself is) in
       let above : level s (parent s c) ≡ level s v = ap (level s) (is .of) in
       earlier c below (omega arith) in
       each v h ∙ sum-own v (length s) (omega arith) children ∙ sym (size-sum t v h)
 
   -- where PREORDER follows the sums too, both columns are the sheet's own
-  pub numbers-own : {r : ℕ} → r ≡ rootOf s → getD label r 0 ≡ 1 → Numbered s label 0 r → Numbered s label (suc r) (length s)
+  pub numbers-own : {r : ℕ} → r ≡ rootOf s → getD label r 0 ≡ 1 → Numbered s label 0 r → Numbered s label (r + 1) (length s)
       → ((v : ℕ) → v < length s → sizeIn s label v ≡ sumIn s label v (length s)) → Same label 0 (labelTable s) 0 (2 * length s)
   numbers-own {r} e first low high each =
       let n = length s in
       let sizes : (v : ℕ) → v < n → sizeIn s label v ≡ size s v = λ v h. sizes-up each n v h (omega arith) in
-      let root : t .root ≡ r = root-found t ∙ sym e in
-      let step : (v : ℕ) → v < n → parent s v ≢ v → getD label v 0 ≡ getD label (parent s v) 0 + sumIn s label (parent s v) v = λ v h q.
-      by-order (suc r) v (λ b. high .number v b h)
-      (λ b. by-order r v (λ c. let w : v ≡ r = omega arith in absurd (q (ap (parent s) (w ∙ sym root) ∙ t .root-itself ∙ root ∙ sym w)))
-      (λ c. low .number v zero-le c)) in
       let numbers : (v : ℕ) → v < n → getD label v 0 ≡ preorderNumber s v =
-      from-root t (λ v. getD label v 0 ≡ preorderNumber s v)
-      (ap (λ (k : ℕ). getD label k 0) root ∙ first ∙ sym (preorder-root t))
-      (λ v h q above.
+      root-down t e (λ v. getD label v 0) (preorderNumber s) (λ v. sumIn s label (parent s v) v)
+      (first ∙ sym (preorder-root t)) (low .number) (high .number)
+      (λ v h q.
       let sum = sum-own (parent s v) v (omega arith) (λ c below _. sizes c below) in
       let own = preorder-child t v h q in
-      let said = step v h q in
       omega arith) in
-      let first-column = column-same s label 0 0 (lit< tt) (λ v h. rw zero-add (numbers v h)) in
-      let second-column = column-same s label n 1 (lit< tt) sizes in
-      let both = same-join {i = 0} {j = 0} {m = n} (rw zero-mul at first-column) (rw zero-add (rw one-mul at second-column)) in
-      let twice : n + n ≡ 2 * n = omega arith in
-      rw twice at both
-
--- ---- the root, which the sums leave out
-
--- it is a node, and no other node names itself
-pub record Root (s : List ℕ) (r : ℕ) : Type 0 where
-  pub node : r < length s
-  pub itself : parent s r ≡ r
-  pub only : (v : ℕ) → v < length s → v ≢ r → parent s v ≢ v
-
-pub the-root : {s : List ℕ} {r : ℕ} → Tree s → r ≡ rootOf s → Root s r
-the-root {s} {r} t e =
-    let found : t .root ≡ r = root-found t ∙ sym e in
-    record {
-      node = rw found at (t .root-inside);
-      itself = rw found at (t .root-itself);
-      only = λ v h q own. q (t .root-only v h own ∙ found);
-    }
+      two-columns s label 0 n (omega arith) (λ v h. rw zero-add (numbers v h)) sizes

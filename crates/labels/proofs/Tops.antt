@@ -17,8 +17,9 @@ use Rattle.tree.specs.Ready.{Ready}
 use Rattle.tree.proofs.Scans.{by-equal, by-test}
 use Rattle.tree.proofs.Trees.{root-found}
 use Rattle.tree.proofs.Paths.{Top, no-node, top-node, head-cases, head-top}
+use Rattle.labels.proofs.Parents.{the-root}
 use Rattle.labels.proofs.Labelled.{Labelled}
-use Rattle.labels.specs.Heads.{placeOf}
+use Rattle.labels.specs.Heads.{headPlace}
 use Rattle.labels.proofs.Filling.{Filling, filling-store, filling-keep}
 
 -- what is found of HEAD when the nodes below v have been seen, and the root
@@ -31,7 +32,7 @@ Heads s work P = Filling s work (length s) (λ i. headNode s (suc i)) (λ i. P (
 
 -- the cell of a node is in work
 pub place-inside : {s label : List ℕ} {v q : ℕ} → v < length s → Labelled s label v
-    → q ≡ placeOf (length s) (getD label (3 * length s + v) 0) (getD label (3 * length s + parent s v) 0) → q < workCells (length s)
+    → q ≡ headPlace (length s) (getD label (3 * length s + v) 0) (getD label (3 * length s + parent s v) 0) → q < workCells (length s)
 place-inside {s} {label} {v} {q} h f e =
     by-test (eqb (getD label (3 * length s + v) 0) (getD label (3 * length s + parent s v) 0)) (λ t. let first : q ≡ 0 = rw t at e in omega arith)
     (λ t. let own : q ≡ length s - 1 + getD label (3 * length s + v) 0 = rw t at e in omega arith)
@@ -57,16 +58,12 @@ module _ {s before : List ℕ} (r : Ready s before) where
       (λ i b k.
       ⊎-elim (λ here. let own = head-node v (suc i) h here .0 in inl (omega arith)) inr (more (headNode s (suc i)) k))
 
-  -- the root is a node
-  pub root-node : {root : ℕ} → root ≡ rootOf s → root < length s
-  root-node is = rw (is ∙ sym (root-found (r .tree))) (r .tree .root-inside)
-
-  -- .. and is stored first
+  -- the root is stored first
   pub heads-start : {filled label work : List ℕ} {root : ℕ} → Filled filled (length s) (length s) noCell work → length work ≡ workCells (length s)
       → root ≡ rootOf s → Labelled s label root → Heads s (set work (length s - 1 + getD label (3 * length s + root) 0) root) (Seen s 0)
   heads-start {filled} {label} {work} {root} full long is f =
-      let same : r .tree .root ≡ root = root-found (r .tree) ∙ sym is in
-      heads-store {P = λ h. h ≡ noCell} (heads-none full long) (root-node is) f (inl (rw same at (r .tree .root-itself)))
+      let top = the-root (r .tree) is in
+      heads-store {P = λ h. h ≡ noCell} (heads-none full long) (top .node) f (inl (top .itself))
       (λ h k. ⊎-elim inr (λ g. ⊎-elim (λ top. inl (top ∙ sym is)) (λ below. absurd (not-suc-le-zero {n = h} below)) g) k)
 
   -- node v is seen next
@@ -75,7 +72,7 @@ module _ {s before : List ℕ} (r : Ready s before) where
 
   -- .. and is stored at its INLABEL if it is a top node, and else to cell 0, which is not of the column
   pub heads-step : {label work : List ℕ} {v q : ℕ} → Heads s work (Seen s v) → v < length s → Labelled s label v → Labelled s label (parent s v)
-      → q ≡ placeOf (length s) (getD label (3 * length s + v) 0) (getD label (3 * length s + parent s v) 0) → Heads s (set work q v) (Seen s (v + 1))
+      → q ≡ headPlace (length s) (getD label (3 * length s + v) 0) (getD label (3 * length s + parent s v) 0) → Heads s (set work q v) (Seen s (v + 1))
   heads-step {label} {work} {v} {q} hs h f above e =
       let t = r .tree in
       by-equal (inlabel s v) (inlabel s (parent s v))

@@ -15,15 +15,17 @@ use Rattle.tree.specs.Tests.{limit}
 abbrev pub cellIn : List ℕ → List ℕ → ℕ → ℕ → ℕ
 cellIn s label k v = getD label (k * length s + v) 0
 
--- the LEVEL of each node from `first` to before `end` is one more than its parent's
-pub record Rises (s label : List ℕ) (first end : ℕ) : Type 0 where
-  pub level : (v : ℕ) → first ≤ v → v < end → cellIn s label 2 v ≡ cellIn s label 2 (parent s v) + 1
+-- column k of each node from `first` to before `end` is its parent's and `more`
+pub record Follows (s label : List ℕ) (k : ℕ) (more : ℕ → ℕ) (first end : ℕ) : Type 0 where
+  pub step : (v : ℕ) → first ≤ v → v < end → cellIn s label k v ≡ cellIn s label k (parent s v) + more v
 
--- the ASCENDANT of each is its parent's with the bit that is added
-pub record Ascends (s label : List ℕ) (first end : ℕ) : Type 0 where
-  pub ascendant : (v : ℕ) → first ≤ v → v < end
-      → cellIn s label 4 v
-      ≡ cellIn s label 4 (parent s v) + cond (eqb (cellIn s label 3 v) (cellIn s label 3 (parent s v))) 0 (lowestOne (cellIn s label 3 v))
+-- LEVEL, column 2, adds one
+abbrev pub levelStep : ℕ → ℕ
+levelStep v = 1
+
+-- ASCENDANT, column 4, adds nothing where the two INLABELs are equal, and else the lowest one bit of the node's own
+abbrev pub ascendantStep : List ℕ → List ℕ → ℕ → ℕ
+ascendantStep s label v = cond (eqb (cellIn s label 3 v) (cellIn s label 3 (parent s v))) 0 (lowestOne (cellIn s label 3 v))
 
 -- the nodes that are gone over, and a label table of the sheet's length
 pub record Steps (s label : List ℕ) (first end : ℕ) : Type 0 where

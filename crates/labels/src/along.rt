@@ -3,17 +3,14 @@
 ghost use mathlib.Core.Path.{_≡_};
 ghost use mathlib.Core.Bool.{cond};
 ghost use lib.Dec.{eqb};
-ghost use lib.ListN.{length};
 ghost use Prim.Native.Nat.{_+_, _≤_};
 ghost use Rattle.bits.specs.Bits.{lowestOne};
-ghost use Rattle.tree.specs.Sections.{Same};
-ghost use Rattle.tree.specs.Preorder.{preorder};
-ghost use Rattle.tree.specs.Ready.{Ready, Columns, ColumnIn};
+ghost use Rattle.tree.specs.Ready.{Ready, Columns, ColumnIn, OrderIn};
 
 // The nodes in preorder, into the first n cells of work.
 pub(crate) fn order(parents: &[u16], label: &[u16], work: &mut [u16])
     requires { ⌜ Columns (now parents) (now label) (now work) 1 ⌝ }
-    ensures { λ _. ⌜ Same (now (work .exit)) 0 (preorder (now (parents .entry))) 0 (length (now (parents .entry))) ⌝ }
+    ensures { λ _. ⌜ OrderIn (now (parents .entry)) (now (work .exit)) ⌝ }
 {
     let n = parents.len();
     let mut v = 0;
@@ -25,7 +22,7 @@ pub(crate) fn order(parents: &[u16], label: &[u16], work: &mut [u16])
 
 // LEVEL, from the order in the first n cells of work into the next n.
 pub(crate) fn levels(parents: &[u16], work: &mut [u16])
-    requires { ⌜ Ready (now parents) (now work) × Same (now work) 0 (preorder (now parents)) 0 (length (now parents)) ⌝ }
+    requires { ⌜ Ready (now parents) (now work) × OrderIn (now parents) (now work) ⌝ }
     ensures { λ _. ⌜ ColumnIn (now (parents .entry)) (now (work .exit)) 2 ⌝ }
 {
     let n = parents.len();
@@ -40,7 +37,7 @@ pub(crate) fn levels(parents: &[u16], work: &mut [u16])
 
 // ASCENDANT, from the order in the first n cells of work into the next n.
 pub(crate) fn ascendants(parents: &[u16], label: &[u16], work: &mut [u16])
-    requires { ⌜ Columns (now parents) (now label) (now work) 4 × Same (now work) 0 (preorder (now parents)) 0 (length (now parents)) ⌝ }
+    requires { ⌜ Columns (now parents) (now label) (now work) 4 × OrderIn (now parents) (now work) ⌝ }
     ensures { λ _. ⌜ ColumnIn (now (parents .entry)) (now (work .exit)) 4 ⌝ }
 {
     let n = parents.len();

@@ -14,10 +14,9 @@ ghost use Rattle.bits.specs.Bits.{log2};
 ghost use Rattle.tree.specs.Tree.{rootOf};
 ghost use Rattle.tree.specs.Buffers.{labelCells};
 ghost use Rattle.tree.specs.Labels.{labelTable, topmost};
-ghost use Rattle.tree.specs.Sections.{Same};
-ghost use Rattle.tree.specs.Ready.{Ready, Columns, ColumnIn};
-ghost use Rattle.cells.specs.Cells.{Agree};
-ghost use Rattle.labels.specs.Heads.{placeOf};
+ghost use Rattle.tree.specs.Ready.{Ready, Columns, ColumnIn, ColumnsOwn, ColumnOwn, NumbersIn};
+ghost use Rattle.cells.specs.Cells.{AgreeAt};
+ghost use Rattle.labels.specs.Heads.{headPlace};
 
 // No cell.
 const NONE: u16 = 65535;
@@ -25,7 +24,7 @@ const NONE: u16 = 65535;
 // PREORDER and SIZE, into the last 2n cells of work.
 pub fn numbers(parents: &[u16], root: usize, work: &mut [u16])
     requires { ⌜ Ready (now parents) (now work) × (root ≡ rootOf (now parents)) ⌝ }
-    ensures { λ _. ⌜ Same (now (work .exit)) (2 * length (now (parents .entry))) (labelTable (now (parents .entry))) 0 (2 * length (now (parents .entry))) ⌝ }
+    ensures { λ _. ⌜ NumbersIn (now (parents .entry)) (now (work .exit)) ⌝ }
 {
     links::link(parents, work);
     links::walk(parents, root, work);
@@ -34,7 +33,7 @@ pub fn numbers(parents: &[u16], root: usize, work: &mut [u16])
 // Whether the PREORDER and SIZE of a lent label table are the sheet's own: sooner told than they are made. The first n cells of work are made use of.
 pub fn numbers_hold(parents: &[u16], root: usize, label: &[u16], work: &mut [u16]) -> bool
     requires { ⌜ Ready (now parents) (now work) × (root ≡ rootOf (now parents)) × (length (now label) ≡ labelCells (length (now parents))) ⌝ }
-    ensures { λ r. ⌜ (r ≡ true → Same (now (label .entry)) 0 (labelTable (now (parents .entry))) 0 (2 * length (now (parents .entry)))) ⌝ }
+    ensures { λ r. ⌜ (r ≡ true → ColumnsOwn (now (parents .entry)) (now (label .entry)) 2) ⌝ }
 {
     sums::hold(parents, root, label, work)
 }
@@ -66,7 +65,7 @@ pub fn agree_column(
     work: &mut [u16],
 ) -> usize
     requires { ⌜ (2 ≤ k) × (k < 6) × Columns (now parents) (now label) (now work) k × (root ≡ rootOf (now parents)) ⌝ }
-    ensures { λ r. ⌜ Agree (now (label .entry)) (k * length (now (parents .entry))) (labelTable (now (parents .entry))) (k * length (now (parents .entry))) (length (now (parents .entry))) r ⌝ }
+    ensures { λ r. ⌜ AgreeAt (now (label .entry)) (labelTable (now (parents .entry))) (k * length (now (parents .entry))) (length (now (parents .entry))) r ⌝ }
 {
     let n = parents.len();
     if column_holds(k, parents, root, label, work) {
@@ -79,7 +78,7 @@ pub fn agree_column(
 // Whether column k is the sheet's own, where that is told without making it: of LEVEL and ASCENDANT.
 fn column_holds(k: usize, parents: &[u16], root: usize, label: &[u16], work: &[u16]) -> bool
     requires { ⌜ Columns (now parents) (now label) (now work) k × (root ≡ rootOf (now parents)) ⌝ }
-    ensures { λ r. ⌜ (r ≡ true → Same (now (label .entry)) (k * length (now (parents .entry))) (labelTable (now (parents .entry))) (k * length (now (parents .entry))) (length (now (parents .entry)))) ⌝ }
+    ensures { λ r. ⌜ (r ≡ true → ColumnOwn (now (parents .entry)) (now (label .entry)) k) ⌝ }
 {
     if k == 2 {
         return steps::levels_hold(parents, root, label, work);
@@ -161,7 +160,7 @@ fn heads(parents: &[u16], root: usize, label: &[u16], work: &mut [u16])
 // no head.
 fn place(n: usize, k: usize, upper: usize) -> usize
     requires { ⌜ (0 < n) × (n + k ≤ 65535) ⌝ }
-    ensures { λ r. ⌜ r ≡ placeOf n k upper ⌝ }
+    ensures { λ r. ⌜ r ≡ headPlace n k upper ⌝ }
 {
     if k == upper {
         return 0;

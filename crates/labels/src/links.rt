@@ -5,9 +5,7 @@ ghost use lib.ListN.{length};
 ghost use Prim.Native.Nat.{_*_, _≤_};
 ghost use Rattle.tree.specs.Buffers.{workCells};
 ghost use Rattle.tree.specs.Tests.{limit};
-ghost use Rattle.tree.specs.Labels.{labelTable};
-ghost use Rattle.tree.specs.Sections.{Same};
-ghost use Rattle.tree.specs.Ready.{Ready};
+ghost use Rattle.tree.specs.Ready.{Ready, NumbersIn};
 ghost use Rattle.labels.specs.Walk.{Links, Walks, Numbered, firstOf, endOf};
 
 // The links: each node's lowest child in the first n cells of work and its next sibling in the next n, or n where there is none.
@@ -31,7 +29,7 @@ pub(crate) fn link(parents: &[u16], work: &mut [u16])
 // PREORDER, in the third n cells of work, and SIZE, in the last n.
 pub(crate) fn walk(parents: &[u16], root: usize, work: &mut [u16])
     requires { ⌜ Walks (now parents) root (now work) ⌝ }
-    ensures { λ _. ⌜ Same (now (work .exit)) (2 * length (now (parents .entry))) (labelTable (now (parents .entry))) 0 (2 * length (now (parents .entry))) ⌝ }
+    ensures { λ _. ⌜ NumbersIn (now (parents .entry)) (now (work .exit)) ⌝ }
 {
     number(parents, root, work);
     measure(parents, work);
@@ -71,7 +69,7 @@ fn first_of(a: u16, b: u16, none: u16) -> u16
 // SIZE in place of the node after: the distance to its number.
 fn measure(parents: &[u16], work: &mut [u16])
     requires { ⌜ Ready (now parents) (now work) × Numbered (now parents) (now work) ⌝ }
-    ensures { λ _. ⌜ Same (now (work .exit)) (2 * length (now (parents .entry))) (labelTable (now (parents .entry))) 0 (2 * length (now (parents .entry))) ⌝ }
+    ensures { λ _. ⌜ NumbersIn (now (parents .entry)) (now (work .exit)) ⌝ }
 {
     let n = parents.len();
     let mut v = 0;

@@ -4,18 +4,15 @@
 ghost use mathlib.Core.Path.{_≡_};
 ghost use mathlib.Core.Bool.{true};
 ghost use lib.ListN.{length};
-ghost use Prim.Native.Nat.{_*_};
 ghost use Rattle.tree.specs.Tree.{rootOf};
 ghost use Rattle.tree.specs.Buffers.{labelCells};
-ghost use Rattle.tree.specs.Labels.{labelTable};
-ghost use Rattle.tree.specs.Sections.{Same};
-ghost use Rattle.tree.specs.Ready.{Ready};
+ghost use Rattle.tree.specs.Ready.{Ready, ColumnsOwn};
 ghost use Rattle.labels.specs.Sums.{Sums, Numbered, Adds};
 
 // Whether they are. The first n cells of work are made use of.
 pub(crate) fn hold(parents: &[u16], root: usize, label: &[u16], work: &mut [u16]) -> bool
     requires { ⌜ Ready (now parents) (now work) × (root ≡ rootOf (now parents)) × (length (now label) ≡ labelCells (length (now parents))) ⌝ }
-    ensures { λ r. ⌜ (r ≡ true → Same (now (label .entry)) 0 (labelTable (now (parents .entry))) 0 (2 * length (now (parents .entry)))) ⌝ }
+    ensures { λ r. ⌜ (r ≡ true → ColumnsOwn (now (parents .entry)) (now (label .entry)) 2) ⌝ }
 {
     let n = parents.len();
     cells::fill(work, 0, n, 1);

@@ -70,7 +70,8 @@ pub(crate) fn raised(
 
 // The first of these: as high as both stay different.
 fn apart(parents: &[u16], lift: &[u16], x0: usize, y0: usize, at: usize, rows: &mut [u16]) -> Raised
-    requires { ⌜ Pair (now parents) x0 y0 × (now lift ≡ liftTable (now parents)) × (length (now rows) ≡ trailCells) × (at + suc (log2 (length (now parents))) < 32) ⌝ }
+    requires { ⌜ Pair (now parents) x0 y0 × (now lift ≡ liftTable (now parents)) × (length (now rows) ≡ trailCells)
+        × (at + suc (log2 (length (now parents))) < 32) ⌝ }
     ensures { λ r. ⌜ Raises (now (parents .entry))
         (falling (staysApart (own (now (parents .entry)))) (raiseBoth (own (now (parents .entry)))) (suc (log2 (length (now (parents .entry))))) (row x0 y0))
         (row x0 y0) at (now (rows .entry)) r (now (rows .exit)) ⌝ }

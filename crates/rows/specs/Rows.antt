@@ -1,6 +1,6 @@
 -- What the rows of the tour table and of the lift table are made from.
 -- Assumes nothing.
-use Prim.Native.Nat.{ℕ, _+_, _*_, _^_, _≤_, _<_}
+use Prim.Native.Nat.{ℕ, _+_, _*_, _^_, _≤_, _<_, _-_}
 use mathlib.Core.Path.{_≡_}
 use mathlib.Core.Logic.{_⊎_}
 use mathlib.Core.Bool.{cond}
@@ -14,7 +14,7 @@ use Rattle.tree.specs.Buffers.{visits, tourCells, liftCells}
 use Rattle.tree.specs.Tour.{sparse, tourTable}
 use Rattle.tree.specs.Lifts.{liftTable}
 use Rattle.tree.specs.Sections.{Same}
-use Rattle.tree.specs.Ready.{Ready}
+use Rattle.tree.specs.Ready.{Ready, TourOwn}
 
 -- the cells of work from `from` on hold the levels at the positions of the row whose blocks have `size` cells: the least of each block
 pub record RowLevels (s work : List ℕ) (from size : ℕ) : Type 0 where
@@ -40,7 +40,11 @@ pub record SparseRow (s table : List ℕ) (at half from : ℕ) (work : List ℕ)
   pub more : row < log2 (visits (length s))
   pub begins : at ≡ visits (length s) + length s + row * visits (length s)
   pub blocks : half ≡ 2 ^ row
-  pub own : Same table 0 (tourTable s) 0 (at + visits (length s))
+  pub own : TourOwn s table (at + visits (length s))
+
+-- the cells of the row after it whose blocks end within the tour are the sheet's own
+abbrev pub BlocksOwn : List ℕ → List ℕ → ℕ → ℕ → Type 0
+BlocksOwn s table at half = Same table (at + visits (length s)) (tourTable s) (at + visits (length s)) (2 * length s - 2 * half)
 
 -- what is read of the row at `at` for two blocks side by side, from i on, and of their levels; the position of lesser level is the next row's
 pub record TwoBlocks (s table work : List ℕ) (at half from i : ℕ) : Type 0 where

@@ -9,15 +9,13 @@ ghost use mathlib.Core.Path.{_≡_};
 ghost use Prim.Native.Nat.{_-_, _*_, _≤_, _<_};
 ghost use lib.ListN.{length};
 ghost use Rattle.tree.specs.Buffers.{visits};
-ghost use Rattle.tree.specs.Tour.{tourTable};
-ghost use Rattle.tree.specs.Sections.{Same};
-ghost use Rattle.tree.specs.Ready.{Columns};
+ghost use Rattle.tree.specs.Ready.{Columns, TourIn};
 
 // The tour, into the first 2n − 1 cells of work: a node stands at its first position, and its parent stands after the last of its visits.
 // For the root that is the cell behind the tour.
 pub fn visits(parents: &[u16], label: &[u16], work: &mut [u16])
     requires { ⌜ Columns (now parents) (now label) (now work) 6 ⌝ }
-    ensures { λ _. ⌜ Same (now (work .exit)) 0 (tourTable (now (parents .entry))) 0 (visits (length (now (parents .entry)))) ⌝ }
+    ensures { λ _. ⌜ TourIn (now (parents .entry)) (now (work .exit)) 0 (visits (length (now (parents .entry)))) ⌝ }
 {
     let n = parents.len();
     let mut v = 0;
@@ -40,7 +38,7 @@ fn first_visit(preorder: u16, level: u16) -> usize
 // The first positions, into the first n cells of work.
 pub fn first_visits(parents: &[u16], label: &[u16], work: &mut [u16])
     requires { ⌜ Columns (now parents) (now label) (now work) 6 ⌝ }
-    ensures { λ _. ⌜ Same (now (work .exit)) 0 (tourTable (now (parents .entry))) (visits (length (now (parents .entry)))) (length (now (parents .entry))) ⌝ }
+    ensures { λ _. ⌜ TourIn (now (parents .entry)) (now (work .exit)) (visits (length (now (parents .entry)))) (length (now (parents .entry))) ⌝ }
 {
     let n = parents.len();
     let mut v = 0;

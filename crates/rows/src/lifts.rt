@@ -4,15 +4,15 @@ ghost use mathlib.Core.Path.{_≡_};
 ghost use Prim.Native.Nat.{ℕ, _+_, _≤_, _<_};
 ghost use lib.ListN.{length, getD};
 ghost use Rattle.tree.specs.Lifts.{liftTable};
-ghost use Rattle.tree.specs.Sections.{Same};
-ghost use Rattle.cells.specs.Cells.{Agree};
+ghost use Rattle.tree.specs.Ready.{LiftIn, LiftOwn};
+ghost use Rattle.cells.specs.Cells.{AgreeAt};
 ghost use Rattle.rows.specs.Rows.{LiftRow};
 
 // The row after the one at `at` of the lift table, into the first n cells of work. Where all cells of a row are one node, the root, so are those of
 // the next.
 pub fn next_lift(parents: &[u16], lift: &[u16], at: usize, work: &mut [u16])
     requires { ⌜ LiftRow (now parents) (now lift) at (now work) ⌝ }
-    ensures { λ _. ⌜ Same (now (work .exit)) 0 (liftTable (now (parents .entry))) (at + length (now (parents .entry))) (length (now (parents .entry))) ⌝ }
+    ensures { λ _. ⌜ LiftIn (now (parents .entry)) (now (work .exit)) at ⌝ }
 {
     let n = parents.len();
     let first = lift[at];
@@ -25,7 +25,7 @@ pub fn next_lift(parents: &[u16], lift: &[u16], at: usize, work: &mut [u16])
 // How many cells of that row, in the table, are the sheet's own before the first that is not. The row is made only where some are not.
 pub fn agree_lift(parents: &[u16], lift: &[u16], at: usize, work: &mut [u16]) -> usize
     requires { ⌜ LiftRow (now parents) (now lift) at (now work) ⌝ }
-    ensures { λ r. ⌜ Agree (now (lift .entry)) (at + length (now (parents .entry))) (liftTable (now (parents .entry))) (at + length (now (parents .entry))) (length (now (parents .entry))) r ⌝ }
+    ensures { λ r. ⌜ AgreeAt (now (lift .entry)) (liftTable (now (parents .entry))) (at + length (now (parents .entry))) (length (now (parents .entry))) r ⌝ }
 {
     let n = parents.len();
     if differences(parents, lift, at, work) == 0 {
@@ -38,7 +38,7 @@ pub fn agree_lift(parents: &[u16], lift: &[u16], at: usize, work: &mut [u16]) ->
 // The bits in which any of its cells differs from the sheet's own.
 fn differences(parents: &[u16], lift: &[u16], at: usize, work: &[u16]) -> u16
     requires { ⌜ LiftRow (now parents) (now lift) at (now work) ⌝ }
-    ensures { λ r. ⌜ (r ≡ 0 → Same (now (lift .entry)) (at + length (now (parents .entry))) (liftTable (now (parents .entry))) (at + length (now (parents .entry))) (length (now (parents .entry)))) ⌝ }
+    ensures { λ r. ⌜ (r ≡ 0 → LiftOwn (now (parents .entry)) (now (lift .entry)) at) ⌝ }
 {
     let n = parents.len();
     let first = lift[at];
@@ -51,7 +51,7 @@ fn differences(parents: &[u16], lift: &[u16], at: usize, work: &[u16]) -> u16
 // The row after the one at `at`, cell by cell.
 fn twice(parents: &[u16], lift: &[u16], at: usize, work: &mut [u16])
     requires { ⌜ LiftRow (now parents) (now lift) at (now work) ⌝ }
-    ensures { λ _. ⌜ Same (now (work .exit)) 0 (liftTable (now (parents .entry))) (at + length (now (parents .entry))) (length (now (parents .entry))) ⌝ }
+    ensures { λ _. ⌜ LiftIn (now (parents .entry)) (now (work .exit)) at ⌝ }
 {
     let n = parents.len();
     let mut v = 0;
@@ -64,7 +64,7 @@ fn twice(parents: &[u16], lift: &[u16], at: usize, work: &mut [u16])
 // The same, cell by cell.
 fn twice_differences(parents: &[u16], lift: &[u16], at: usize, work: &[u16]) -> u16
     requires { ⌜ LiftRow (now parents) (now lift) at (now work) ⌝ }
-    ensures { λ r. ⌜ (r ≡ 0 → Same (now (lift .entry)) (at + length (now (parents .entry))) (liftTable (now (parents .entry))) (at + length (now (parents .entry))) (length (now (parents .entry)))) ⌝ }
+    ensures { λ r. ⌜ (r ≡ 0 → LiftOwn (now (parents .entry)) (now (lift .entry)) at) ⌝ }
 {
     let n = parents.len();
     let mut bits: u16 = 0;

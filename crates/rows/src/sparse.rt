@@ -8,10 +8,9 @@ ghost use lib.Dec.{ltb};
 ghost use lib.ListN.{length, getD};
 ghost use Rattle.tree.specs.Buffers.{visits, tourCells};
 ghost use Rattle.tree.specs.Tour.{tourTable};
-ghost use Rattle.tree.specs.Sections.{Same};
-ghost use Rattle.tree.specs.Ready.{Columns};
-ghost use Rattle.cells.specs.Cells.{Agree};
-ghost use Rattle.rows.specs.Rows.{RowLevels, LevelRow, SparseRow, TwoBlocks};
+ghost use Rattle.tree.specs.Ready.{Columns, TourIn, TourOwn};
+ghost use Rattle.cells.specs.Cells.{AgreeAt};
+ghost use Rattle.rows.specs.Rows.{RowLevels, LevelRow, SparseRow, TwoBlocks, BlocksOwn};
 
 // No cell.
 const NONE: u16 = 65535;
@@ -19,9 +18,10 @@ const NONE: u16 = 65535;
 // Row 0, into the first 2n − 1 cells of work, and the levels at the tour's positions into those from 2n on.
 pub fn first_row(parents: &[u16], label: &[u16], tour: &[u16], work: &mut [u16])
     requires { ⌜ Columns (now parents) (now label) (now work) 6 × (length (now tour) ≡ tourCells (length (now parents)))
-        × Same (now tour) 0 (tourTable (now parents)) 0 (visits (length (now parents))) ⌝ }
+        × TourOwn (now parents) (now tour) (visits (length (now parents))) ⌝ }
     ensures { λ _. ⌜ RowLevels (now (parents .entry)) (now (work .exit)) (2 * length (now (parents .entry))) 1
-        × Same (now (work .exit)) 0 (tourTable (now (parents .entry))) (visits (length (now (parents .entry))) + length (now (parents .entry))) (visits (length (now (parents .entry)))) ⌝ }
+        × TourIn (now (parents .entry)) (now (work .exit)) (visits (length (now (parents .entry))) + length (now (parents .entry)))
+        (visits (length (now (parents .entry)))) ⌝ }
 {
     let n = parents.len();
     let m = 2 * n - 1;
@@ -44,7 +44,7 @@ pub fn fill_row(
     work: &[u16],
 )
     requires { ⌜ SparseRow (now parents) (now table) at half from (now work) ⌝ }
-    ensures { λ _. ⌜ Same (now (table .exit)) 0 (tourTable (now (parents .entry))) 0 (at + visits (length (now (parents .entry))) + visits (length (now (parents .entry)))) ⌝ }
+    ensures { λ _. ⌜ TourOwn (now (parents .entry)) (now (table .exit)) (at + visits (length (now (parents .entry))) + visits (length (now (parents .entry)))) ⌝ }
 {
     let n = parents.len();
     let next = at + (2 * n - 1);
@@ -68,7 +68,7 @@ pub fn agree_row(
 ) -> usize
     requires { ⌜ SparseRow (now parents) (now table) at half from (now work) ⌝ }
     ensures { λ r. ⌜ RowLevels (now (parents .entry)) (now (work .exit)) from half
-        × Agree (now (table .entry)) (at + visits (length (now (parents .entry)))) (tourTable (now (parents .entry))) (at + visits (length (now (parents .entry)))) (visits (length (now (parents .entry)))) r ⌝ }
+        × AgreeAt (now (table .entry)) (tourTable (now (parents .entry))) (at + visits (length (now (parents .entry)))) (visits (length (now (parents .entry)))) r ⌝ }
 {
     let n = parents.len();
     let end = 2 * n - 2 * half;
@@ -91,7 +91,8 @@ fn agree_blocks(
     work: &[u16],
 ) -> usize
     requires { ⌜ SparseRow (now parents) (now table) at half from (now work) ⌝ }
-    ensures { λ r. ⌜ Agree (now (table .entry)) (at + visits (length (now (parents .entry)))) (tourTable (now (parents .entry))) (at + visits (length (now (parents .entry)))) (2 * length (now (parents .entry)) - 2 * half) r ⌝ }
+    ensures { λ r. ⌜ AgreeAt (now (table .entry)) (tourTable (now (parents .entry))) (at + visits (length (now (parents .entry))))
+        (2 * length (now (parents .entry)) - 2 * half) r ⌝ }
 {
     let n = parents.len();
     let next = at + (2 * n - 1);
@@ -120,7 +121,7 @@ fn differences(
     work: &[u16],
 ) -> u16
     requires { ⌜ SparseRow (now parents) (now table) at half from (now work) ⌝ }
-    ensures { λ r. ⌜ (r ≡ 0 → Same (now (table .entry)) (at + visits (length (now (parents .entry)))) (tourTable (now (parents .entry))) (at + visits (length (now (parents .entry)))) (2 * length (now (parents .entry)) - 2 * half)) ⌝ }
+    ensures { λ r. ⌜ (r ≡ 0 → BlocksOwn (now (parents .entry)) (now (table .entry)) at half) ⌝ }
 {
     let n = parents.len();
     let next = at + (2 * n - 1);

@@ -13,7 +13,8 @@ ghost use Rattle.tree.specs.Nodes.{Small};
 
 // Of the positions i to j, the part visited at one of least LEVEL: two blocks of length 2^k, one from i on and one up to j.
 pub(crate) fn shallowest(parents: &[u16], label: &[u16], tour: &[u16], i: usize, j: usize) -> usize
-    requires { ⌜ Small (now parents) × (now label ≡ labelTable (now parents)) × (now tour ≡ tourTable (now parents)) × (i ≤ j) × (j < visits (length (now parents))) ⌝ }
+    requires { ⌜ Small (now parents) × (now label ≡ labelTable (now parents)) × (now tour ≡ tourTable (now parents))
+        × (i ≤ j) × (j < visits (length (now parents))) ⌝ }
     ensures { λ r. ⌜ IsBelow (byBlocks (own (now (parents .entry))) i j) (length (now (parents .entry))) r ⌝ }
 {
     let n = parents.len();

@@ -56,7 +56,8 @@ pub struct FirstLast {
 // The first and the last part of a list in preorder.
 pub fn ends(parents: &[u16], label: &[u16], question: &[u16]) -> FirstLast
     requires { ⌜ Listed (now parents) (now question) × (now label ≡ labelTable (now parents)) ⌝ }
-    ensures { λ r. ⌜ (r .first ≡ firstInPreorder (now (parents .entry)) (now (question .entry))) × (r .last ≡ lastInPreorder (now (parents .entry)) (now (question .entry))) ⌝ }
+    ensures { λ r. ⌜ (r .first ≡ firstInPreorder (now (parents .entry)) (now (question .entry)))
+        × (r .last ≡ lastInPreorder (now (parents .entry)) (now (question .entry))) ⌝ }
 {
     let mut first = question[0] as usize;
     let mut last = first;

@@ -1,7 +1,6 @@
 -- `labels::column_holds` meets its contract: each of the two columns has its test.
 -- Assumes nothing.
 use borrow.Author.Needs.{needs}
-use mathlib.Core.Path.{sym}
 use Rattle.labels.proofs.column_holds.Statement.{statement}
 use Rattle.labels.proofs.column_holds.Tie as tie
 

@@ -7,9 +7,11 @@ use mathlib.Core.Path.{_≡_}
 use lib.Dec.{lit<}
 use lib.ListN.{length, getD}
 use Rattle.tree.specs.Tree.{parent}
+use Rattle.tree.specs.Buffers.{workCells}
 use Rattle.tree.proofs.Columns.{column-same}
+use Rattle.labels.proofs.Parents.{the-root}
 use Rattle.labels.proofs.Labelled.{Labelled, labelled}
-use Rattle.labels.proofs.Tops.{Heads, Seen, root-node, place-inside, heads-start, heads-step, heads-end}
+use Rattle.labels.proofs.Tops.{Heads, Seen, place-inside, heads-start, heads-step, heads-end}
 use Rattle.labels.proofs.heads.Statement.{statement}
 use Rattle.labels.proofs.heads.Tie as tie
 
@@ -21,7 +23,7 @@ abbrev μ-loop : tie.MeasureT-loop
 
 -- the root is a node
 root-below : (c : tie.Start Inv-loop μ-loop) → c .args .root < length (c .args .parents .now)
-root-below c = root-node (c .pre .0 .ready) (c .pre .1)
+root-below c = the-root (c .pre .0 .ready .tree) (c .pre .1) .node
 
 -- the root's INLABEL
 root-here : (c : tie.After-slice-known2 Inv-loop μ-loop)
@@ -47,6 +49,13 @@ above : (c : tie.In-loop Inv-loop μ-loop)
     → let s = c .before .before .before .before .before .before .before .before .before .before in
     Labelled (s .args .parents .now) (s .args .label .now) (getD (s .args .parents .now) (c .before .loop .v) 0)
 above c = labelled (up c) (c .before .before .before .before .before .before .before .before .before .before .pre .0)
+
+-- the cell that is written stands in work
+inside : (c : tie.After-place Inv-loop μ-loop)
+    → let s = c .before .before .before .before .before .before .before .before .before .before .before .before .before .before in
+    c .place .result < workCells (length (s .args .parents .now))
+unfolding parent
+inside c = let w = c .before .before .before .before in place-inside (w .loop-test .taken) (here w) (c .place .ensures)
 
 fill-requires : tie.Need-fill-requires Inv-loop μ-loop
 fill-requires c κs = search needs
@@ -132,18 +141,10 @@ place-requires : tie.Need-place-requires Inv-loop μ-loop
 place-requires c κs = let f = here (c .before .before .before) in (search needs, search needs)
 
 mul-work-4 : tie.Need-mul-work-4 Inv-loop μ-loop
-unfolding parent
-mul-work-4 c =
-    let w = c .before .before .before .before in
-    let inside = place-inside (w .loop-test .taken) (here w) (c .place .ensures) in
-    search needs
+mul-work-4 c = let b = inside c in search needs
 
 slice-write-work-2 : tie.Need-slice-write-work-2 Inv-loop μ-loop
-unfolding parent
-slice-write-work-2 c =
-    let w = c .before .before .before .before in
-    let inside = place-inside (w .loop-test .taken) (here w) (c .place .ensures) in
-    search needs
+slice-write-work-2 c = let b = inside c in search needs
 
 add-v : tie.Need-add-v Inv-loop μ-loop
 add-v c = search needs

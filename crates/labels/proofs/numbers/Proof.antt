@@ -1,7 +1,7 @@
 -- `labels::numbers` meets its contract: the links are made, and the walk follows them.
 -- Assumes nothing.
 use borrow.Author.Needs.{needs}
-use mathlib.Core.Path.{_∙_}
+use Rattle.tree.proofs.Columns.{ready-kept}
 use Rattle.labels.proofs.numbers.Statement.{statement}
 use Rattle.labels.proofs.numbers.Tie as tie
 
@@ -13,7 +13,7 @@ walk-requires c κs =
     let c3 = c .before .before .before in
     let s = c3 .before .before .before .before in
     let k = c3 .link in
-    record { ready = record { tree = s .pre .0 .tree; small = s .pre .0 .small; room = k .kept .1 .0 ∙ s .pre .0 .room }; is = s .pre .1; links = k .ensures }
+    record { ready = ready-kept (s .pre .0) (k .kept .1 .0); is = s .pre .1; links = k .ensures }
 
 same-length : tie.Need-same-length
 same-length c = search needs

@@ -90,7 +90,10 @@ mul-if2-2 : tie.Need-mul-if2-2 Inv-loop μ-loop
 mul-if2-2 c = let d = node (c .before .before .before .before .before) in omega arith
 
 shared-slice-read-if2-2 : tie.Need-shared-slice-read-if2-2 Inv-loop μ-loop
-shared-slice-read-if2-2 c = let d = node (c .before .before .before .before .before .before) in omega (arith, label-cells _ (c .before .before .before .before .before .before .before .before .before .pre .1))
+shared-slice-read-if2-2 c =
+    let c6 = c .before .before .before .before .before .before in
+    let d = node c6 in
+    omega (arith, label-cells _ (c6 .before .before .before .pre .1))
 
 add-i : tie.Need-add-i Inv-loop μ-loop
 add-i c = search needs

@@ -2,10 +2,11 @@
 -- Assumes nothing.
 use native.Mathlib.Omega.{arith}
 use borrow.Author.Needs.{needs}
-use mathlib.Core.Path.{_≡_}
-use borrow.Author.Tests.{eq-eqb, ne-eqb}
+use Prim.Native.Nat.{ℕ, _+_}
+use mathlib.Core.Path.{ap, _∙_}
+use lib.Dec.{eqb}
 use Rattle.bits.specs.Bits.{lowestOne}
-use Rattle.tree.proofs.Scans.{by-equal}
+use Rattle.labels.proofs.Ascending.{add-chosen, chosen-most}
 use Rattle.labels.proofs.along.ascend.Statement.{statement}
 use Rattle.labels.proofs.along.ascend.Tie as tie
 
@@ -15,18 +16,13 @@ added-requires c κs = search needs
 add-result : tie.Need-add-result
 add-result c =
     let a = c .before .args in
-    let e = c .added .ensures in
-    by-equal (a .inlabel) (a .upper)
-    (λ q. let none : c .added .result ≡ 0 = rw (eq-eqb _ _ q) at e in omega arith)
-    (λ q. let one : c .added .result ≡ lowestOne (a .inlabel) = rw (ne-eqb _ _ q) at e in omega arith)
+    let most = chosen-most (eqb (a .inlabel) (a .upper)) (lowestOne (a .inlabel)) in
+    omega (arith, c .added .ensures)
 
 returns : tie.Need-returns
 returns c =
     let a = c .before .args in
-    let e = c .added .ensures in
-    by-equal (a .inlabel) (a .upper)
-    (λ q. let none : c .added .result ≡ 0 = rw (eq-eqb _ _ q) at e in rw (eq-eqb _ _ q) (omega arith))
-    (λ q. let one : c .added .result ≡ lowestOne (a .inlabel) = rw (ne-eqb _ _ q) at e in rw (ne-eqb _ _ q) (omega arith))
+    ap (λ (x : ℕ). a .above + x) (c .added .ensures) ∙ add-chosen (eqb (a .inlabel) (a .upper)) (a .above) (lowestOne (a .inlabel))
 
 pub ascend-spec : {M : Type 1} → statement M
 ascend-spec = tie.close (tie.spec added-requires add-result returns)

@@ -3,9 +3,10 @@
 use native.Mathlib.Omega.{arith}
 use borrow.Author.Needs.{needs}
 use Prim.Native.Nat.{suc, _-_, _≤_, _<_}
-use mathlib.Core.Path.{_≡_, _∙_}
+use mathlib.Core.Path.{_≡_}
 use lib.ListN.{length, getD, length-set}
 use Rattle.tree.specs.Tree.{parent}
+use Rattle.tree.proofs.Columns.{ready-kept}
 use Rattle.labels.proofs.Linking.{Linking, linking-start, linking-root, linking-child, linking-end}
 use Rattle.labels.proofs.links.link.Statement.{statement}
 use Rattle.labels.proofs.links.link.Tie as tie
@@ -15,6 +16,18 @@ Inv-loop parents work₀ n i₀ work i = (i ≤ length parents) × (length work 
 
 abbrev μ-loop : tie.MeasureT-loop
 μ-loop parents work₀ n i₀ work i = i
+
+-- the node that is passed, and its parent
+up : (c : tie.In-loop Inv-loop μ-loop)
+    → let s = c .before .before .before .before .before .before .before .before .args .parents .now in
+    let k = c .before .loop .i - 1 in
+    (k < length s) × (getD s k 0 < length s)
+unfolding parent
+up c =
+    let s = c .before .before .before .before .before .before .before .before in
+    let k = c .before .loop .i - 1 in
+    let b : k < length (s .args .parents .now) = omega arith in
+    (b, s .pre .tree .inside k b)
 
 mul-fill : tie.Need-mul-fill Inv-loop μ-loop
 mul-fill c = search needs
@@ -29,7 +42,7 @@ loop-holds : tie.Need-loop-holds Inv-loop μ-loop
 loop-holds c =
     let s = c .before .before .before .before .before .before in
     let f = c .before .before .fill in
-    (search needs, search needs, linking-start (record { tree = s .pre .tree; small = s .pre .small; room = f .kept .0 ∙ s .pre .room }) (f .ensures))
+    (search needs, search needs, linking-start (ready-kept (s .pre) (f .kept .0)) (f .ensures))
 
 sub-i : tie.Need-sub-i Inv-loop μ-loop
 sub-i c = search needs
@@ -44,20 +57,10 @@ cast-p : tie.Need-cast-p Inv-loop μ-loop
 cast-p c = omega (arith, c .shared-slice-known2 .given (c .before .before .loop .i - 1))
 
 mul-work : tie.Need-mul-work Inv-loop μ-loop
-unfolding parent
-mul-work c =
-    let c3 = c .before .before .before in
-    let c10 = c3 .before .before .before .before .before .before .before in
-    let inside = c10 .pre .tree .inside (c3 .loop .i - 1) (omega arith) in
-    omega arith
+mul-work c = let b = up (c .before .before) in omega arith
 
 slice-read-work : tie.Need-slice-read-work Inv-loop μ-loop
-unfolding parent
-slice-read-work c =
-    let c4 = c .before .before .before .before in
-    let c11 = c4 .before .before .before .before .before .before .before in
-    let inside = c11 .pre .tree .inside (c4 .loop .i - 1) (omega arith) in
-    omega arith
+slice-read-work c = let b = up (c .before .before .before) in omega arith
 
 add-work : tie.Need-add-work Inv-loop μ-loop
 add-work c = search needs
@@ -72,22 +75,10 @@ cast-work : tie.Need-cast-work Inv-loop μ-loop
 cast-work c = search needs
 
 mul-work-3 : tie.Need-mul-work-3 Inv-loop μ-loop
-unfolding parent
-mul-work-3 c =
-    let c4 = c .before .before .before .before in
-    let c11 = c4 .before .before .before .before .before .before .before in
-    let inside = c11 .pre .tree .inside (c4 .loop .i - 1) (omega arith) in
-    omega arith
+mul-work-3 c = let b = up (c .before .before .before) in omega arith
 
 slice-write-work-2 : tie.Need-slice-write-work-2 Inv-loop μ-loop
-unfolding parent
-slice-write-work-2 c =
-    let c4 = c .before .before .before .before in
-    let c11 = c4 .before .before .before .before .before .before .before in
-    let l = c4 .loop in
-    let inside = c11 .pre .tree .inside (l .i - 1) (omega arith) in
-    let b : getD (c11 .args .parents .now) (l .i - 1) 0 < length (l .work) = omega arith in
-    simp length-set b
+slice-write-work-2 c = let b = up (c .before .before .before) in simp length-set (omega arith)
 
 loop-less : tie.Need-loop-less Inv-loop μ-loop
 loop-less c = search needs
@@ -95,14 +86,11 @@ loop-less c = search needs
 loop-again : tie.Need-loop-again Inv-loop μ-loop
 unfolding parent
 loop-again c =
-    let c4 = c .before .before .before .before in
-    let c11 = c4 .before .before .before .before .before .before .before in
-    let l = c4 .loop in
-    let k = l .i - 1 in
-    let e : l .i ≡ suc k = omega arith in
-    let b : k < length (c11 .args .parents .now) = omega arith in
-    let again = linking-child b (c11 .pre .tree .inside k b) (c .before .if1 .taken) (rw e at (l .inv .2)) in
-    (omega arith, simp length-set (l .inv .1), again)
+    let w = c .before .before .before in
+    let l = w .before .loop in
+    let b = up w in
+    let e : l .i ≡ suc (l .i - 1) = omega arith in
+    (omega arith, simp length-set (l .inv .1), linking-child (b .0) (b .1) (c .before .if1 .taken) (rw e at (l .inv .2)))
 
 loop-less-2 : tie.Need-loop-less-2 Inv-loop μ-loop
 loop-less-2 c = search needs
@@ -110,11 +98,10 @@ loop-less-2 c = search needs
 loop-again-2 : tie.Need-loop-again-2 Inv-loop μ-loop
 unfolding parent
 loop-again-2 c =
-    let l = c .before .before .before .loop in
-    let k = l .i - 1 in
-    let e : l .i ≡ suc k = omega arith in
-    let b : k < length (c .before .before .before .before .before .before .before .before .before .before .args .parents .now) = omega arith in
-    (omega arith, l .inv .1, linking-root b (c .if1 .left) (rw e at (l .inv .2)))
+    let w = c .before .before in
+    let l = w .before .loop in
+    let e : l .i ≡ suc (l .i - 1) = omega arith in
+    (omega arith, l .inv .1, linking-root (up w .0) (c .if1 .left) (rw e at (l .inv .2)))
 
 same-length : tie.Need-same-length Inv-loop μ-loop
 same-length c = search needs

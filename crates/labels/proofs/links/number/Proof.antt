@@ -2,12 +2,12 @@
 -- Assumes nothing.
 use native.Mathlib.Omega.{arith}
 use borrow.Author.Needs.{needs}
-use Prim.Native.Nat.{_+_, _-_, _*_, _≤_, _<_}
+use Prim.Native.Nat.{_-_, _≤_, _<_}
 use mathlib.Core.Path.{_≡_}
 use lib.ListN.{length, getD, length-set}
 use Rattle.tree.specs.Tree.{parent}
 use Rattle.labels.specs.Walk.{nodeAt}
-use Rattle.labels.proofs.Tops.{root-node}
+use Rattle.labels.proofs.Parents.{the-root}
 use Rattle.labels.proofs.Walking.{Walking, walking-start, walking-node, walking-step, walking-next, walking-end}
 use Rattle.labels.proofs.links.number.Statement.{statement}
 use Rattle.labels.proofs.links.number.Tie as tie
@@ -20,7 +20,7 @@ abbrev μ-loop : tie.MeasureT-loop
 
 -- the root is a node
 top : (c : tie.Start Inv-loop μ-loop) → c .args .root < length (c .args .parents .now)
-top c = root-node (c .pre .ready) (c .pre .is)
+top c = the-root (c .pre .ready .tree) (c .pre .is) .node
 
 -- v is a node, and its parent is one
 here : (c : tie.In-loop Inv-loop μ-loop)
@@ -31,7 +31,7 @@ unfolding parent
 here c =
     let t = c .before .before .before .before .pre .ready .tree in
     let l = c .before .loop .inv in
-    let h = walking-node t (c .loop-test .taken) (l .1) (l .2) .0 in
+    let h = walking-node t (c .loop-test .taken) (l .1) (l .2) .node in
     (h, t .inside _ h)
 
 cast-work : tie.Need-cast-work Inv-loop μ-loop
@@ -102,11 +102,8 @@ mul-first-of c = let b = here (c .before .before) in search needs
 slice-read-first-of : tie.Need-slice-read-first-of Inv-loop μ-loop
 slice-read-first-of c =
     let w = c .before .before .before in
-    let s = w .before .before .before .before .args .parents .now in
-    let l = w .before .loop in
-    let h = here w in
-    let b : length s + l .v < length (l .work) = omega (arith, l .inv .2 .number .room) in
-    simp length-set b
+    let b = here w in
+    simp length-set (omega (arith, w .before .loop .inv .2 .number .room))
 
 cast-first-of : tie.Need-cast-first-of Inv-loop μ-loop
 cast-first-of c = search needs
@@ -126,11 +123,8 @@ mul-work-6 c = let b = here (c .before .before .before .before) in search needs
 slice-write-work-3 : tie.Need-slice-write-work-3 Inv-loop μ-loop
 slice-write-work-3 c =
     let w = c .before .before .before .before in
-    let s = w .before .before .before .before .args .parents .now in
-    let l = w .before .loop in
-    let h = here w in
-    let b : 3 * length s + l .v < length (l .work) = omega (arith, l .inv .2 .number .room) in
-    simp length-set b
+    let b = here w in
+    simp length-set (omega (arith, w .before .loop .inv .2 .number .room))
 
 mul-first-of-2 : tie.Need-mul-first-of-2 Inv-loop μ-loop
 mul-first-of-2 c = let b = here (c .before .before .before .before) in search needs
@@ -138,11 +132,8 @@ mul-first-of-2 c = let b = here (c .before .before .before .before) in search ne
 slice-read-first-of-2 : tie.Need-slice-read-first-of-2 Inv-loop μ-loop
 slice-read-first-of-2 c =
     let w = c .before .before .before .before .before in
-    let s = w .before .before .before .before .args .parents .now in
-    let l = w .before .loop in
-    let h = here w in
-    let b : l .v < length (l .work) = omega (arith, l .inv .2 .number .room) in
-    simp length-set b
+    let b = here w in
+    simp length-set (omega (arith, w .before .loop .inv .2 .number .room))
 
 cast-first-of-2 : tie.Need-cast-first-of-2 Inv-loop μ-loop
 cast-first-of-2 c = search needs

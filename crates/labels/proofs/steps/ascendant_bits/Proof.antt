@@ -2,41 +2,33 @@
 -- Assumes nothing.
 use native.Mathlib.Omega.{arith}
 use borrow.Author.Needs.{needs}
-use Prim.Native.Nat.{ℕ, _+_, _-_, _*_, _≤_, _<_}
-use native.Mathlib.Numerals.{add-one}
-use mathlib.Core.Path.{_≡_, ap, _∙_}
-use mathlib.Core.List.{List}
+use Prim.Native.Nat.{ℕ, _+_, _-_, _*_}
 use lib.ListN.{length, getD}
 use Rattle.tree.specs.Tree.{parent}
-use Rattle.cells.proofs.Stretches.{no-bits}
-use Rattle.labels.specs.Steps.{Ascends}
-use Rattle.labels.proofs.Stepping.{ascends-none, ascends-more}
+use Rattle.labels.specs.Steps.{ascendantStep}
+use Rattle.labels.proofs.Parents.{Cells}
+use Rattle.labels.proofs.Stepping.{Gathered, step-cells, gathered-start, gathered-step, gathered-end}
 use Rattle.labels.proofs.steps.ascendant_bits.Statement.{statement}
 use Rattle.labels.proofs.steps.ascendant_bits.Tie as tie
 
 abbrev Inv-loop : tie.InvT-loop
-Inv-loop parents label first end n bits₀ v₀ bits v =
-    (first ≤ v) × (v ≤ end) × (bits ≡ 0 → Ascends parents label first v)
+Inv-loop parents label first end n bits₀ v₀ bits v = Gathered parents label 4 (ascendantStep parents label) first end bits v
 
 abbrev μ-loop : tie.MeasureT-loop
 μ-loop parents label first end n bits₀ v₀ bits v = end - v
 
--- the node and its parent are the sheet's, and their cells stand in the table
-record Cells (s label : List ℕ) (v : ℕ) : Type 0 where
-  small : length s ≤ 16384
-  node : v < length s
-  above : getD s v 0 < length s
-  columns : length label ≡ 6 * length s
-
 cells : (c : tie.In-loop Inv-loop μ-loop) → let s = c .before .before .before .before .args in Cells (s .parents .now) (s .label .now) (c .before .loop .v)
-unfolding parent
-cells c =
-    let s = c .before .before .before .before in
-    let most = s .pre .most in
-    record { small = s .pre .small; node = omega arith; above = s .pre .inside (c .before .loop .v) (omega arith); columns = s .pre .cells }
+cells c = step-cells (c .before .before .before .before .pre) (c .loop-test .taken)
+
+-- the cell of the parent's ASCENDANT
+abbrev above : tie.After-shared-slice-known7 Inv-loop μ-loop → ℕ
+above c =
+    let w = c .before .before .before .before .before .before .before in
+    let s = w .before .before .before .args .parents .now in
+    4 * length s + getD s (w .loop .v) 0
 
 loop-holds : tie.Need-loop-holds Inv-loop μ-loop
-loop-holds c = (search needs, c .before .before .pre .ordered, λ e. ascends-none _ _ _)
+loop-holds c = gathered-start (c .before .before .pre .ordered)
 
 mul-p : tie.Need-mul-p Inv-loop μ-loop
 mul-p c = let d = cells c in omega arith
@@ -90,7 +82,9 @@ shared-slice-read-bits : tie.Need-shared-slice-read-bits Inv-loop μ-loop
 shared-slice-read-bits c = let d = cells (c .before .before .before .before .before) in omega arith
 
 cast-bits : tie.Need-cast-bits Inv-loop μ-loop
-cast-bits c = omega (arith, c .shared-slice-known6 .given (4 * length (c .before .before .before .before .before .before .before .before .before .args .parents .now) + c .before .before .before .before .before .before .loop .v))
+cast-bits c =
+    let w = c .before .before .before .before .before .before in
+    omega (arith, c .shared-slice-known6 .given (4 * length (w .before .before .before .args .parents .now) + w .loop .v))
 
 mul-bits-3 : tie.Need-mul-bits-3 Inv-loop μ-loop
 mul-bits-3 c = let d = cells (c .before .before .before .before .before) in omega arith
@@ -105,10 +99,10 @@ shared-slice-read-bits-2 : tie.Need-shared-slice-read-bits-2 Inv-loop μ-loop
 shared-slice-read-bits-2 c = let d = cells (c .before .before .before .before .before .before) in omega arith
 
 cast-bits-2 : tie.Need-cast-bits-2 Inv-loop μ-loop
-cast-bits-2 c = omega (arith, c .shared-slice-known7 .given (4 * length (c .before .before .before .before .before .before .before .before .before .before .args .parents .now) + getD (c .before .before .before .before .before .before .before .before .before .before .args .parents .now) (c .before .before .before .before .before .before .before .loop .v) 0))
+cast-bits-2 c = omega (arith, c .shared-slice-known7 .given (above c))
 
 add-bits-3 : tie.Need-add-bits-3 Inv-loop μ-loop
-add-bits-3 c = omega (arith, c .before .before .added .ok, c .shared-slice-known7 .given (4 * length (c .before .before .before .before .before .before .before .before .before .before .args .parents .now) + getD (c .before .before .before .before .before .before .before .before .before .before .args .parents .now) (c .before .before .before .before .before .before .before .loop .v) 0))
+add-bits-3 c = omega (arith, c .before .before .added .ok, c .shared-slice-known7 .given (above c))
 
 add-v : tie.Need-add-v Inv-loop μ-loop
 add-v c = search needs
@@ -119,21 +113,11 @@ loop-less c = search needs
 loop-again : tie.Need-loop-again Inv-loop μ-loop
 unfolding parent
 loop-again c =
-    let l = c .before .before .before .before .before .before .before .loop in
-    let s = c .before .before .before .before .before .before .before .before .before .before .args in (
-      omega arith,
-      omega arith,
-      λ z.
-          let none = no-bits _ _ _ z in
-          rw add-one (ascends-more (l .inv .2 (none .0)) (none .1 ∙ ap (λ k. getD (s .label .now) (4 * length (s .parents .now) + getD (s .parents .now) (l .v) 0) 0 + k) (c .before .before .added .ensures))),
-    )
+    let w = c .before .before .before .before .before .before in
+    gathered-step (w .before .loop .inv) (w .loop-test .taken) (c .before .before .added .ensures)
 
 returns : tie.Need-returns Inv-loop μ-loop
-returns c =
-    λ z.
-    let l = c .before .loop in
-    let e : l .v ≡ c .before .before .before .before .args .end = omega arith in
-    rw e at (l .inv .2 z)
+returns c = gathered-end (c .before .loop .inv) (c .loop-test .left)
 
 pub ascendant-bits-spec : {M : Type 1} → statement M
 ascendant-bits-spec =

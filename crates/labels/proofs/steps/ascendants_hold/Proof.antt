@@ -3,11 +3,9 @@
 use native.Mathlib.Omega.{arith}
 use borrow.Author.Needs.{needs}
 use borrow.Author.Tests.{eqb-true}
-use native.Mathlib.Numerals.{add-one}
-use Rattle.labels.proofs.Summing.{the-root}
 use mathlib.Core.Path.{_∙_}
 use Rattle.labels.proofs.Ascending.{ascend-root}
-use Rattle.labels.proofs.Stepping.{steps-low, steps-high, ascendants-own}
+use Rattle.labels.proofs.Stepping.{root-cells, steps-low, steps-high, ascendants-own}
 use Rattle.labels.proofs.steps.ascendants_hold.Statement.{statement}
 use Rattle.labels.proofs.steps.ascendants_hold.Tie as tie
 
@@ -15,13 +13,13 @@ mul-if1 : tie.Need-mul-if1
 mul-if1 c = search needs
 
 add-if1 : tie.Need-add-if1
-add-if1 c = let s = c .before .before .before in let r = the-root (s .pre .0 .ready .tree) (s .pre .1) in omega (arith, r .node, s .pre .0 .ready .small, s .pre .0 .cells)
+add-if1 c = let d = root-cells (c .before .before .before .pre) in omega arith
 
 mul-if1-2 : tie.Need-mul-if1-2
-mul-if1-2 c = let s = c .before .before .before in let r = the-root (s .pre .0 .ready .tree) (s .pre .1) in omega (arith, r .node, s .pre .0 .ready .small, s .pre .0 .cells)
+mul-if1-2 c = let d = root-cells (c .before .before .before .pre) in omega arith
 
 shared-slice-read-if1 : tie.Need-shared-slice-read-if1
-shared-slice-read-if1 c = let s = c .before .before .before .before in let r = the-root (s .pre .0 .ready .tree) (s .pre .1) in omega (arith, r .node, s .pre .0 .ready .small, s .pre .0 .cells)
+shared-slice-read-if1 c = let d = root-cells (c .before .before .before .before .pre) in omega arith
 
 cast-log2 : tie.Need-cast-log2
 cast-log2 c = search needs
@@ -36,23 +34,23 @@ returns : tie.Need-returns
 returns c = λ e. absurd (let z = e in search needs)
 
 ascendant-bits-requires : tie.Need-ascendant-bits-requires
-ascendant-bits-requires c κs = let s = c .before .before .before .before .before .before in steps-low (s .pre .0) (s .pre .1)
+ascendant-bits-requires c κs = steps-low (c .before .before .before .before .before .before .pre)
 
 returns-2 : tie.Need-returns-2
 returns-2 c = λ e. absurd (let z = e in search needs)
 
 add-ascendant-bits : tie.Need-add-ascendant-bits
-add-ascendant-bits c = let s = c .before .before .before .before .before .before .before .before in let r = the-root (s .pre .0 .ready .tree) (s .pre .1) in omega (arith, r .node, s .pre .0 .ready .small, s .pre .0 .cells)
+add-ascendant-bits c = let d = root-cells (c .before .before .before .before .before .before .before .before .pre) in omega arith
 
 ascendant-bits-requires-2 : tie.Need-ascendant-bits-requires-2
-ascendant-bits-requires-2 c κs = let s = c .before .before .before .before .before .before .before .before in steps-high (s .pre .0) (s .pre .1)
+ascendant-bits-requires-2 c κs = steps-high (c .before .before .before .before .before .before .before .before .pre)
 
 returns-3 : tie.Need-returns-3
 returns-3 c =
     λ e.
     let s = c .before .before .before .before .before .before .before .before .before in
-    ascendants-own (s .pre .0) (s .pre .1) (c .before .before .before .if1 .left ∙ ascend-root (s .pre .0 .ready) (c .before .before .before .before .log2 .ensures .is))
-    (c .before .before .ascendant-bits .ensures (c .before .if2 .left)) (rw add-one at (c .ascendant-bits2 .ensures (eqb-true _ _ e)))
+    ascendants-own (s .pre) (c .before .before .before .if1 .left ∙ ascend-root (s .pre .0 .ready) (c .before .before .before .before .log2 .ensures .is))
+    (c .before .before .ascendant-bits .ensures (c .before .if2 .left)) (c .ascendant-bits2 .ensures (eqb-true _ _ e))
 
 pub ascendants-hold-spec : {M : Type 1} → statement M
 ascendants-hold-spec =

@@ -2,41 +2,33 @@
 -- Assumes nothing.
 use native.Mathlib.Omega.{arith}
 use borrow.Author.Needs.{needs}
-use Prim.Native.Nat.{ℕ, _+_, _-_, _*_, _≤_, _<_}
-use native.Mathlib.Numerals.{add-one}
-use mathlib.Core.Path.{_≡_}
-use mathlib.Core.List.{List}
+use Prim.Native.Nat.{ℕ, _+_, _-_, _*_}
+use mathlib.Core.Path.{refl}
 use lib.ListN.{length, getD}
-use Rattle.tree.specs.Tree.{parent}
-use Rattle.cells.proofs.Stretches.{no-bits}
-use Rattle.labels.specs.Steps.{Rises}
-use Rattle.labels.proofs.Stepping.{rises-none, rises-more}
+use Rattle.labels.specs.Steps.{levelStep}
+use Rattle.labels.proofs.Parents.{Cells}
+use Rattle.labels.proofs.Stepping.{Gathered, step-cells, gathered-start, gathered-step, gathered-end}
 use Rattle.labels.proofs.steps.level_bits.Statement.{statement}
 use Rattle.labels.proofs.steps.level_bits.Tie as tie
 
 abbrev Inv-loop : tie.InvT-loop
-Inv-loop parents label first end n bits₀ v₀ bits v =
-    (first ≤ v) × (v ≤ end) × (bits ≡ 0 → Rises parents label first v)
+Inv-loop parents label first end n bits₀ v₀ bits v = Gathered parents label 2 levelStep first end bits v
 
 abbrev μ-loop : tie.MeasureT-loop
 μ-loop parents label first end n bits₀ v₀ bits v = end - v
 
--- the node and its parent are the sheet's, and their cells stand in the table
-record Cells (s label : List ℕ) (v : ℕ) : Type 0 where
-  small : length s ≤ 16384
-  node : v < length s
-  above : getD s v 0 < length s
-  columns : length label ≡ 6 * length s
-
 cells : (c : tie.In-loop Inv-loop μ-loop) → let s = c .before .before .args in Cells (s .parents .now) (s .label .now) (c .before .loop .v)
-unfolding parent
-cells c =
-    let s = c .before .before in
-    let most = s .pre .most in
-    record { small = s .pre .small; node = omega arith; above = s .pre .inside (c .before .loop .v) (omega arith); columns = s .pre .cells }
+cells c = step-cells (c .before .before .pre) (c .loop-test .taken)
+
+-- the cell of the parent's LEVEL
+abbrev above : tie.After-shared-slice-known3 Inv-loop μ-loop → ℕ
+above c =
+    let w = c .before .before .before .before in
+    let s = w .before .args .parents .now in
+    2 * length s + getD s (w .loop .v) 0
 
 loop-holds : tie.Need-loop-holds Inv-loop μ-loop
-loop-holds c = (search needs, c .pre .ordered, λ e. rises-none _ _ _)
+loop-holds c = gathered-start (c .pre .ordered)
 
 mul-p : tie.Need-mul-p Inv-loop μ-loop
 mul-p c = let d = cells c in omega arith
@@ -60,7 +52,9 @@ shared-slice-read-bits : tie.Need-shared-slice-read-bits Inv-loop μ-loop
 shared-slice-read-bits c = let d = cells (c .before .before) in omega arith
 
 cast-bits : tie.Need-cast-bits Inv-loop μ-loop
-cast-bits c = omega (arith, c .shared-slice-known2 .given (2 * length (c .before .before .before .before .args .parents .now) + c .before .before .before .loop .v))
+cast-bits c =
+    let w = c .before .before .before in
+    omega (arith, c .shared-slice-known2 .given (2 * length (w .before .args .parents .now) + w .loop .v))
 
 mul-bits-3 : tie.Need-mul-bits-3 Inv-loop μ-loop
 mul-bits-3 c = let d = cells (c .before .before) in omega arith
@@ -75,10 +69,10 @@ shared-slice-read-bits-2 : tie.Need-shared-slice-read-bits-2 Inv-loop μ-loop
 shared-slice-read-bits-2 c = let d = cells (c .before .before .before) in omega arith
 
 cast-bits-2 : tie.Need-cast-bits-2 Inv-loop μ-loop
-cast-bits-2 c = omega (arith, c .shared-slice-known3 .given (2 * length (c .before .before .before .before .before .args .parents .now) + getD (c .before .before .before .before .before .args .parents .now) (c .before .before .before .before .loop .v) 0))
+cast-bits-2 c = omega (arith, c .shared-slice-known3 .given (above c))
 
 add-bits-3 : tie.Need-add-bits-3 Inv-loop μ-loop
-add-bits-3 c = omega (arith, c .shared-slice-known3 .given (2 * length (c .before .before .before .before .before .args .parents .now) + getD (c .before .before .before .before .before .args .parents .now) (c .before .before .before .before .loop .v) 0))
+add-bits-3 c = omega (arith, c .shared-slice-known3 .given (above c))
 
 add-v : tie.Need-add-v Inv-loop μ-loop
 add-v c = search needs
@@ -87,17 +81,10 @@ loop-less : tie.Need-loop-less Inv-loop μ-loop
 loop-less c = search needs
 
 loop-again : tie.Need-loop-again Inv-loop μ-loop
-unfolding parent
-loop-again c =
-    let l = c .before .before .before .before .loop in
-    (omega arith, omega arith, λ z. let none = no-bits _ _ _ z in rw add-one (rises-more (l .inv .2 (none .0)) (none .1)))
+loop-again c = gathered-step (c .before .before .before .before .loop .inv) (c .before .before .before .loop-test .taken) refl
 
 returns : tie.Need-returns Inv-loop μ-loop
-returns c =
-    λ z.
-    let l = c .before .loop in
-    let e : l .v ≡ c .before .before .args .end = omega arith in
-    rw e at (l .inv .2 z)
+returns c = gathered-end (c .before .loop .inv) (c .loop-test .left)
 
 pub level-bits-spec : {M : Type 1} → statement M
 level-bits-spec =

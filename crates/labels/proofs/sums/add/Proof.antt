@@ -10,6 +10,7 @@ use lib.ListN.{length, getD, length-set}
 use Rattle.tree.specs.Tree.{parent}
 use Rattle.cells.proofs.Stretches.{no-bits}
 use Rattle.labels.specs.Sums.{Sums, Numbered}
+use Rattle.labels.proofs.Parents.{Cells, cells-at}
 use Rattle.labels.proofs.Summing.{sums-more, numbered-none, numbered-more}
 use Rattle.labels.proofs.sums.add.Statement.{statement}
 use Rattle.labels.proofs.sums.add.Tie as tie
@@ -22,25 +23,15 @@ Inv-loop parents label first end work₀ n bits₀ v₀ work bits v =
 abbrev μ-loop : tie.MeasureT-loop
 μ-loop parents label first end work₀ n bits₀ v₀ work bits v = end - v
 
--- the node and its parent are the sheet's, and their cells stand in the table and in work
-record Cells (s label work : List ℕ) (v : ℕ) : Type 0 where
-  node : v < length s
-  above : getD s v 0 < length s
-  columns : length label ≡ 6 * length s
-  sums : length work ≡ 4 * length s
-
-cells : (c : tie.In-loop Inv-loop μ-loop)
-    → let s = c .before .before .args in Cells (s .parents .now) (s .label .now) (c .before .loop .work) (c .before .loop .v)
-unfolding parent
+cells : (c : tie.In-loop Inv-loop μ-loop) → let s = c .before .before .args in Cells (s .parents .now) (s .label .now) (c .before .loop .v)
 cells c =
-    let s = c .before .before in
-    let most = s .pre .most in
-    record {
-      node = omega arith;
-      above = s .pre .ready .tree .inside (c .before .loop .v) (omega arith);
-      columns = s .pre .cells;
-      sums = c .before .loop .inv .2 ∙ s .pre .ready .room;
-    }
+    let p = c .before .before .pre in
+    let most = p .most in
+    cells-at (p .ready .small) (p .ready .tree .inside) (p .cells) (omega arith)
+
+-- work keeps its length
+room : (c : tie.In-loop Inv-loop μ-loop) → length (c .before .loop .work) ≡ 4 * length (c .before .before .args .parents .now)
+room c = c .before .loop .inv .2 ∙ c .before .before .pre .ready .room
 
 -- the node's parent
 abbrev parentOf : tie.After-shared-slice-known2 Inv-loop μ-loop → ℕ
@@ -78,7 +69,7 @@ mul-sum : tie.Need-mul-sum Inv-loop μ-loop
 mul-sum c = let d = cells (c .before) in omega arith
 
 slice-read-sum : tie.Need-slice-read-sum Inv-loop μ-loop
-slice-read-sum c = let d = cells (c .before .before) in omega arith
+slice-read-sum c = let d = cells (c .before .before) in omega (arith, room (c .before .before))
 
 cast-sum : tie.Need-cast-sum Inv-loop μ-loop
 cast-sum c = omega (arith, c .slice-known .given (getD (c .before .before .before .before .args .parents .now) (c .before .before .before .loop .v) 0))
@@ -132,7 +123,7 @@ mul-work : tie.Need-mul-work Inv-loop μ-loop
 mul-work c = let d = cells (c .before .before .before .before .before .before) in omega arith
 
 slice-write-work : tie.Need-slice-write-work Inv-loop μ-loop
-slice-write-work c = let d = cells (c .before .before .before .before .before .before) in omega arith
+slice-write-work c = let w = c .before .before .before .before .before .before in let d = cells w in omega (arith, room w)
 
 add-v : tie.Need-add-v Inv-loop μ-loop
 add-v c = search needs
@@ -151,10 +142,12 @@ loop-again c =
       omega arith,
       omega arith,
       simp length-set (l .inv .2),
-      rw add-one (sums-more (omega arith) (f .above) child (l .inv .3)),
+      rw add-one (sums-more (omega (arith, room d)) (f .above) child (l .inv .3)),
       λ z.
           let none = no-bits _ _ _ z in
-          rw add-one (numbered-more (l .inv .4 (none .0)) (none .1 ∙ ap (λ k. getD (s .args .label .now) (getD (s .args .parents .now) (l .v) 0) 0 + k) (l .inv .3 .sum _ (f .above)))),
+          rw add-one
+          (numbered-more (l .inv .4 (none .0))
+          (none .1 ∙ ap (λ k. getD (s .args .label .now) (getD (s .args .parents .now) (l .v) 0) 0 + k) (l .inv .3 .sum _ (f .above)))),
     )
 
 same-length-2 : tie.Need-same-length-2 Inv-loop μ-loop

@@ -9,7 +9,8 @@ use native.Mathlib.Numerals.{add-one}
 use mathlib.Core.Path.{_≡_, _∙_}
 use lib.ListN.{length}
 use Rattle.tree.proofs.Columns.{ready-kept}
-use Rattle.labels.proofs.Summing.{sums-none, sums-root, numbers-own, the-root}
+use Rattle.labels.proofs.Summing.{sums-none, sums-root, numbers-own}
+use Rattle.labels.proofs.Parents.{the-root}
 use Rattle.labels.proofs.sums.hold.Statement.{statement}
 use Rattle.labels.proofs.sums.hold.Tie as tie
 
@@ -83,10 +84,13 @@ returns-3 c = λ e. absurd (let z = e in search needs)
 
 agree-requires : tie.Need-agree-requires
 agree-requires c κs =
-    let s = c .before .before .before .before .before .before .before .before .before .before .before .before .before .before .before .before .before .before .before .before in
-    let f = c .before .before .before .before .before .before .before .before .before .before .before .before .before .before .before .fill .kept .0 in
-    let a = c .before .before .before .before .before .before .before .before .before .before .before .add .kept .1 .1 .1 .1 .0 in
-    let b = c .before .before .before .before .before .before .add2 .kept .1 .1 .1 .1 .0 in
+    let c6 = c .before .before .before .before .before .before in
+    let c11 = c6 .before .before .before .before .before in
+    let c15 = c11 .before .before .before .before in
+    let s = c15 .before .before .before .before .before in
+    let f = c15 .fill .kept .0 in
+    let a = c11 .add .kept .1 .1 .1 .1 .0 in
+    let b = c6 .add2 .kept .1 .1 .1 .1 .0 in
     let room = s .pre .0 .room in
     let cells = s .pre .2 in
     (omega arith, omega arith)
@@ -97,14 +101,15 @@ same-length-4 c = search needs
 returns-4 : tie.Need-returns-4
 returns-4 c =
     λ e.
-    let s = c .before .before .before .before .before .before .before .before .before .before .before .before .before .before .before .before .before .before .before .before .before in
-    let c8 = c .before .before .before .before .before .before .before .before in
     let c4 = c .before .before .before .before in
+    let c8 = c4 .before .before .before .before in
+    let c12 = c8 .before .before .before .before in
+    let s = c12 .before .before .before .before .before .before .before .before .before in
     let high = c4 .before .before .before .add2 .ensures (c4 .if2 .left) in
     let g = c .agree .ensures in
     let all : c .agree .result ≡ length (s .args .parents .now) = eqb-true _ _ e in
     numbers-own (s .pre .0 .tree) (s .args .label .now) (s .pre .1) (c .before .before .if3 .left)
-    (c8 .before .before .before .before .add .ensures (c8 .before .if1 .left) .1) (rw add-one at (high .1))
+    (c12 .add .ensures (c8 .before .if1 .left) .1) (high .1)
     (λ v h. (rw zero-add at (g .same .cell v (omega arith))) ∙ high .0 .sum v h)
 
 pub hold-spec : {M : Type 1} → statement M

@@ -63,7 +63,10 @@ mul-if2 : tie.Need-mul-if2 Inv-loop μ-loop
 mul-if2 c = let room = next-room (c .before .before .before .before .before .before .before .before .pre) in omega arith
 
 shared-slice-read-if2 : tie.Need-shared-slice-read-if2 Inv-loop μ-loop
-shared-slice-read-if2 c = let room = next-room (c .before .before .before .before .before .before .before .before .before .pre) in omega (arith, c .before .before .before .before .before .before .before .before .before .pre .level-row .some)
+shared-slice-read-if2 c =
+    let p = c .before .before .before .before .before .before .before .before .before .pre in
+    let room = next-room p in
+    omega (arith, p .level-row .some)
 
 returns-2 : tie.Need-returns-2 Inv-loop μ-loop
 returns-2 c =

@@ -24,7 +24,9 @@ same-length : tie.Need-same-length
 same-length c = search needs
 
 returns : tie.Need-returns
-returns c = let s = c .before .before .before .before .before .before in (s .pre .level-row .levels, agree-before (s .pre) (c .if1 .taken) (c .before .agree-blocks .ensures))
+returns c =
+    let s = c .before .before .before .before .before .before in
+    (s .pre .level-row .levels, agree-before (s .pre) (c .if1 .taken) (c .before .agree-blocks .ensures))
 
 mul-to : tie.Need-mul-to
 mul-to c = search needs
@@ -54,7 +56,10 @@ add-agree : tie.Need-add-agree
 add-agree c = let room = next-room (c .before .before .before .before .before .before .before .before .before .before .pre) in omega arith
 
 add-agree-2 : tie.Need-add-agree-2
-add-agree-2 c = let room = next-room (c .before .before .before .before .before .before .before .before .before .before .pre) in omega (arith, c .before .before .before .before .before .before .before .before .before .before .pre .level-row .two)
+add-agree-2 c =
+    let p = c .before .before .before .before .before .before .before .before .before .before .pre in
+    let room = next-room p in
+    omega (arith, p .level-row .two)
 
 mul-agree-2 : tie.Need-mul-agree-2
 mul-agree-2 c = search needs
@@ -64,12 +69,13 @@ sub-agree-2 c = search needs
 
 agree-requires : tie.Need-agree-requires
 agree-requires c κs =
-    let p = c .before .before .before .before .before .before .before .before .before .before .before .pre in
+    let s = c .before .before .before .before .before .before .before .before .before .before .before in
+    let p = s .pre in
     let room = next-room p in
     let two = p .level-row .two in
     let some = p .level-row .some in
     let kept = c .before .before .before .fill .kept .0 in
-    let b = inside {k = 2 * c .before .before .before .before .before .before .before .before .before .before .before .args .half - 1} (p .level-row .side) (omega arith) in
+    let b = inside {k = 2 * s .args .half - 1} (p .level-row .side) (omega arith) in
     let cells = p .level-row .ready .room in
     (omega arith, omega arith)
 

@@ -57,7 +57,10 @@ mul-bits : tie.Need-mul-bits Inv-loop μ-loop
 mul-bits c = let room = next-room (c .before .before .before .before .before .before .pre) in omega arith
 
 shared-slice-read-bits : tie.Need-shared-slice-read-bits Inv-loop μ-loop
-shared-slice-read-bits c = let room = next-room (c .before .before .before .before .before .before .before .pre) in omega (arith, c .before .before .before .before .before .before .before .pre .level-row .some)
+shared-slice-read-bits c =
+    let p = c .before .before .before .before .before .before .before .pre in
+    let room = next-room p in
+    omega (arith, p .level-row .some)
 
 add-i : tie.Need-add-i Inv-loop μ-loop
 add-i c = search needs
