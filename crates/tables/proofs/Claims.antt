@@ -14,57 +14,55 @@ use Rattle.tree.specs.Tree.{Tree}
 use Rattle.tree.specs.Verdict.{accepted, refused, verdictOf}
 use Rattle.tree.specs.Tests.{verdict, limit, sheetTests, staleTable}
 use Rattle.tree.specs.Tests as tests
-use Rattle.tree.specs.Buffers.{workCells, workFit, firstUnfit}
+use Rattle.tree.specs.Buffers.{workCells, sheetFits}
 use Rattle.tree.specs.Labels.{labelTable}
 use Rattle.tree.specs.Tour.{tourTable}
 use Rattle.tree.specs.Lifts.{liftTable}
 use Rattle.tree.specs.Tables.{Lent, own, endToEnd}
 use Rattle.tree.specs.Sections.{firstDifference}
+use Rattle.tree.specs.Lending.{unfitOf}
 use Rattle.tree.proofs.Answers.{filled-own, filled-kept, stale-refused, stale-accepted}
 use Rattle.tree.proofs.Scans.{by-order}
 use Rattle.tree.proofs.Verdicts.{not-both, accepted-on, accepted-case}
+use Rattle.tree.proofs.Fits.{fitting-none}
+use Rattle.tree.proofs.Stages.{stage-yes}
 use Rattle.tree.proofs.Differences.{difference-same, difference-here, difference-all}
 use Rattle.tree.proofs.Claims.{accepted-exactly}
 use Rattle.tables.specs.Check.{CheckGives}
-use Rattle.tables.specs.Lend.{unfitOf, buildVerdict, BuildGives, LentGives}
+use Rattle.tables.specs.Lend.{buildVerdict, BuildGives, LentGives}
 
 -- ---- checking
 
--- work of exact length leaves no buffer that does not fit
-work-fits : (n cells : ℕ) → cells ≡ workCells n → firstUnfit (workFit n cells ∷ []) ≡ 0
-unfolding firstUnfit
-work-fits n cells e = rw (eq-eqb cells (workCells n) e)
-
 -- tests 1 to 7 where the buffers fit
-accepts : {s : List ℕ} {r : Outcome} {buffer : ℕ} → verdictOf r ≡ verdict (sheetTests s buffer) → buffer ≡ 0 → (r ≡ Accepted) ↔ (Tree s × (length s ≤ limit))
-accepts {s} {r} e fits =
-    let same : verdictOf r ≡ verdict (sheetTests s 0) = e ∙ ap (λ (buffer : ℕ). verdict (sheetTests s buffer)) fits in
+accepts : (s : List ℕ) {r : Outcome} (buffer : ℕ) → verdictOf r ≡ verdict (sheetTests s buffer) → buffer ≡ 0 → (r ≡ Accepted) ↔ (Tree s × (length s ≤ limit))
+accepts s {r} buffer e fits =
+    let same : verdictOf r ≡ verdict (sheetTests s 0) = e ∙ ap (λ (b : ℕ). verdict (sheetTests s b)) fits in
     (λ a. accepted-exactly s .0 (sym same ∙ ap verdictOf a), λ t. accepted-case r (same ∙ accepted-exactly s .1 t))
 
 -- "With buffers that fit, a sheet of 1 to 16,384 parts is accepted exactly if it is one rooted tree"
-pub check-accepts : {s before after : List ℕ} {r : Outcome} → CheckGives s before r after → length before ≡ workCells (length s)
+pub check-accepts : (s before : List ℕ) {r : Outcome} {after : List ℕ} → CheckGives s before r after → length before ≡ workCells (length s)
     → (r ≡ Accepted) ↔ (Tree s × (length s ≤ limit))
-check-accepts {s} {before} g fits = accepts (g .outcome) (work-fits (length s) (length before) fits)
+check-accepts s before g fits = accepts s _ (g .outcome) (fitting-none (sheetFits (workCells (length s)) (length before)) (eq-eqb _ _ fits, tt))
 
 -- ---- building
 
 module _ {t : Lent} {before label′ tour′ lift′ after : List ℕ} {r : Outcome} (g : BuildGives t before r label′ tour′ lift′ after) where
   -- the same of the call that builds
   pub build-accepts : unfitOf t before 0 ≡ 0 → (r ≡ Accepted) ↔ (Tree (t .parents) × (length (t .parents) ≤ limit))
-  build-accepts fits = accepts (g .outcome) fits
+  build-accepts fits = accepts (t .parents) _ (g .answered .outcome) fits
 
   -- "Every table cell is what Schieber-Vishkin, Bender/Farach-Colton or the doubling rule define"
   pub build-fills : r ≡ Accepted → (label′ ≡ labelTable (t .parents)) × (tour′ ≡ tourTable (t .parents)) × (lift′ ≡ liftTable (t .parents))
   build-fills e =
       let v = buildVerdict t before in
-      let accepting : v ≡ accepted = sym (g .outcome) ∙ ap verdictOf e in
+      let accepting : v ≡ accepted = stage-yes (g .answered) e in
       (g .label ∙ sym (filled-own v _ _ accepting), g .tour ∙ sym (filled-own v _ _ accepting), g .lift ∙ sym (filled-own v _ _ accepting))
 
   -- "A refusal .. changes no table"
   pub build-keeps : {number place : ℕ} → verdictOf r ≡ refused number place → (label′ ≡ t .label) × (tour′ ≡ t .tour) × (lift′ ≡ t .lift)
   build-keeps e =
       let v = buildVerdict t before in
-      let refusing : v ≡ refused _ _ = sym (g .outcome) ∙ e in
+      let refusing : v ≡ refused _ _ = sym (g .answered .outcome) ∙ e in
       (g .label ∙ sym (filled-kept v _ _ _ _ refusing), g .tour ∙ sym (filled-kept v _ _ _ _ refusing), g .lift ∙ sym (filled-kept v _ _ _ _ refusing))
 
 -- ---- comparing
@@ -73,7 +71,7 @@ module _ {t : Lent} {before label′ tour′ lift′ after : List ℕ} {r : Outc
 abbrev mine : Lent → List ℕ
 mine t = endToEnd (own (t .parents))
 
-module _ {t : Lent} {before after : List ℕ} {r : Outcome} (g : LentGives t 0 before r after) (a : tests.Accepted (t .parents)) (fits : unfitOf t before 0 ≡ 0) where
+module _ (t : Lent) {before after : List ℕ} {r : Outcome} (g : LentGives t 0 before r after) (a : tests.Accepted (t .parents)) (fits : unfitOf t before 0 ≡ 0) where
   -- the comparison decides
   decided : verdictOf r ≡ verdict (staleTable t ∷ [])
   decided =

@@ -1,18 +1,18 @@
 -- The links of the loop test: how a pass makes them longer, and what they say of the climbs.
 -- Assumes nothing.
-use Prim.Native.Nat.{ℕ, suc, _+_, _*_, _-_, _≤_, _<_}
+use Prim.Native.Nat.{ℕ, suc, _+_, _*_, _-_, _≤_, _<_, zero-le}
 use native.Mathlib.Nat.{le-refl, zero-add}
 use native.Mathlib.Omega.{arith}
-use mathlib.Core.Path.{_≡_, sym, ap, _∙_, subst}
+use mathlib.Core.Path.{_≡_, refl, sym, ap, _∙_, subst}
 use mathlib.Core.Logic.{_≢_}
 use mathlib.Core.Bool.{true, false}
 use mathlib.Core.List.{List}
 use lib.Bits.{bitOr, bitXor}
-use lib.ListN.{length, getD, set}
+use lib.ListN.{length, getD, set, length-set}
 use lib.Seq.{getD-set-same, getD-set-other}
 use Rattle.tree.specs.Sections.{Same}
 use Rattle.tree.specs.Tree.{parent, climb, isRoot, nextRoot, rootOf}
-use Rattle.tree.specs.Tests.{testPlace, parentOutOfRange, cycle}
+use Rattle.tree.specs.Tests.{firstOutside, firstLost}
 use Rattle.tree.proofs.Scans.{by-test, by-equal}
 use Rattle.tree.proofs.Climbs.{Inside, climb-one, climb-add, climb-split, climb-stays, climb-inside}
 use Rattle.tree.proofs.Roots.{is-root, root-is, root-of, no-second, meets-by-n}
@@ -21,7 +21,7 @@ use Rattle.cells.proofs.Stretches.{no-bits}
 use Rattle.tables.specs.Jumps.{OneRoot, Rooted, Up, Linked, Links, Hopped, Jumped}
 
 -- a sheet that has passed tests 4 to 6 has one root
-pub one-root : (s : List ℕ) → length s ≤ testPlace (parentOutOfRange s) → rootOf s < length s → length s ≤ nextRoot s (suc (rootOf s)) → OneRoot s (rootOf s)
+pub one-root : (s : List ℕ) → length s ≤ firstOutside s → rootOf s < length s → length s ≤ nextRoot s (suc (rootOf s)) → OneRoot s (rootOf s)
 one-root s entries below none =
     record { inside = entries-inside-place s entries; part = below; itself = root-of s .here below; only = no-second s below none }
 
@@ -47,20 +47,31 @@ link-inside {s} {w} {k} {v} inside l h =
 
 -- ---- a pass
 
--- the links w in a pass that began with links of k steps or more, once those of the parts in P have been replaced
-pub record Between (s w : List ℕ) (P : ℕ → Type 0) (k : ℕ) : Type 0 where
+-- u is none of the parts from a up to e, which the pass has yet to come to
+abbrev Passed : ℕ → ℕ → ℕ → Type 0
+Passed a e u = a ≤ u → u < e → ⊥
+
+-- the links w in a pass that began with links of k steps or more
+pub record Between (s w : List ℕ) (a e k : ℕ) : Type 0 where
   pub every : Linked s w k
-  pub passed : (v : ℕ) → v < length s → P v → Up s (2 * k) v (getD w v 0)
+  pub passed : (v : ℕ) → v < length s → Passed a e v → Up s (2 * k) v (getD w v 0)
 
--- a pass that began with the links w₀
-pub record Jumping (s w₀ w : List ℕ) (r : ℕ) (P : ℕ → Type 0) (bits : ℕ) : Type 0 where
-  pub between : (k : ℕ) → Linked s w₀ k → Between s w P k
-  pub all : bits ≡ 0 → (v : ℕ) → v < length s → P v → getD w v 0 ≡ r
+-- a pass that began with the links w₀ and has yet to come to the parts from a up to e: in rising order a rises, in falling order e falls
+pub record Jumping (s w₀ w : List ℕ) (r a e bits : ℕ) : Type 0 where
+  pub before : Links s w₀ r 0
+  pub kept : length w ≡ length w₀
+  pub ends : e ≤ length s
+  pub between : (k : ℕ) → Linked s w₀ k → Between s w a e k
+  pub all : bits ≡ 0 → (v : ℕ) → v < length s → Passed a e v → getD w v 0 ≡ r
 
-pub jumping-start : {s w : List ℕ} {r : ℕ} {P : ℕ → Type 0} → ((v : ℕ) → v < length s → P v → ⊥) → Jumping s w w r P 0
-jumping-start none = record {
-  between = λ k l. record { every = l; passed = λ v h p. absurd (none v h p) };
-  all = λ _ v h p. absurd (none v h p);
+-- it has yet to come to all
+pub jumping-start : {s w : List ℕ} {r : ℕ} → Links s w r 0 → Jumping s w w r 0 (length s) 0
+jumping-start g = record {
+  before = g;
+  kept = refl;
+  ends = le-refl _;
+  between = λ k l. record { every = l; passed = λ v h p. absurd (p zero-le h) };
+  all = λ _ v h p. absurd (p zero-le h);
 }
 
 -- what holds of the cell that is stored, and of each other, holds of each
@@ -68,39 +79,60 @@ stored : (Q : ℕ → ℕ → Type 0) (w : List ℕ) (i y v : ℕ) → i < lengt
 stored Q w i y v h here other =
     by-equal v i (λ q. rw (q, getD-set-same w i y 0 h) here) (λ q. rw (getD-set-other w i v y 0 q) (other q))
 
--- one part more
-module _ {s w₀ w : List ℕ} {r i bits : ℕ} {P : ℕ → Type 0}
-    (before : Links s w₀ r 0) (long : length w ≡ length w₀) (h : i < length s) (g : Jumping s w₀ w r P bits) where
-  -- there are cells for it and for its link
-  pub jumping-inside : (i < length w) × (getD w i 0 < length w)
+-- it comes to part i
+module _ {s w₀ w : List ℕ} {r a e bits i : ℕ} (g : Jumping s w₀ w r a e bits) (h : i < length s) where
+  -- .. for which there is a cell, and for its link
+  jumping-inside : (i < length w) × (getD w i 0 < length w)
   jumping-inside =
-      let room : length s ≤ length w = omega (arith, before .rooted .fits .room) in
-      let inside = link-inside (before .rooted .one .inside) (g .between 0 (before .linked) .every) h in
+      let room : length s ≤ length w = omega (arith, g .kept, g .before .rooted .fits .room) in
+      let link = link-inside (g .before .rooted .one .inside) (g .between 0 (g .before .linked) .every) h in
       (omega arith, omega arith)
 
-  pub jumping-step : {P′ : ℕ → Type 0} {up : ℕ} {w′ : List ℕ} → ((v : ℕ) → P′ v → v ≢ i → P v) → Hopped w i up w′
-      → Jumping s w₀ w′ r P′ (bitOr bits (bitXor up r))
-  jumping-step {up = up} more hop =
+  -- .. and replaces its link by its link's link
+  jumping-step : {a′ e′ up : ℕ} {w′ : List ℕ} → e′ ≤ e → ((v : ℕ) → v ≢ i → Passed a′ e′ v → Passed a e v) → Hopped w i up w′
+      → Jumping s w₀ w′ r a′ e′ (bitOr bits (bitXor up r))
+  jumping-step {up = up} less more hop =
       let here = jumping-inside .0 in
+      let ends = g .ends in
       rw (hop .now) (record {
+        before = g .before;
+        kept = length-set w i up ∙ g .kept;
+        ends = omega arith;
         between = λ k l.
             let b = g .between k l in
             let link = b .every .link in
-            let jump : Up s (2 * k) i up = rw (hop .to) (up-twice (link i h) (link (getD w i 0) (link-inside (before .rooted .one .inside) (b .every) h))) in
+            let jump : Up s (2 * k) i up =
+            rw (hop .to) (up-twice (link i h) (link (getD w i 0) (link-inside (g .before .rooted .one .inside) (b .every) h))) in
             record {
               every = record { link = λ v l. stored (Up s k) w i up v here (up-less (omega arith) jump) (λ _. link v l) };
-              passed = λ v l p. stored (Up s (2 * k)) w i up v here jump (λ q. b .passed v l (more v p q));
+              passed = λ v l p. stored (Up s (2 * k)) w i up v here jump (λ q. b .passed v l (more v q p));
             };
         all = λ z v l p.
             let none = no-bits bits up r z in
-            stored (λ _ x. x ≡ r) w i up v here (none .1) (λ q. g .all (none .0) v l (more v p q));
+            stored (λ _ x. x ≡ r) w i up v here (none .1) (λ q. g .all (none .0) v l (more v q p));
       })
 
-pub jumping-end : {s w₀ w : List ℕ} {r bits : ℕ} {P : ℕ → Type 0} → ((v : ℕ) → v < length s → P v) → Jumping s w₀ w r P bits → Jumped s w₀ r bits w
-jumping-end every g = record {
-  twice = λ k l. record { link = λ v h. g .between k l .passed v h (every v h) };
-  all = λ z v h. g .all z v h (every v h);
-}
+-- the first of the parts that it has yet to come to, or the last
+module _ {s w₀ w : List ℕ} {r a e bits : ℕ} (g : Jumping s w₀ w r a e bits) (h : a < e) where
+  pub first-inside : (a < length w) × (getD w a 0 < length w)
+  first-inside = jumping-inside g (omega (arith, g .ends))
+
+  pub last-inside : (e - 1 < length w) × (getD w (e - 1) 0 < length w)
+  last-inside = jumping-inside g (omega (arith, g .ends))
+
+  pub jumping-rise : {up : ℕ} {w′ : List ℕ} → Hopped w a up w′ → Jumping s w₀ w′ r (a + 1) e (bitOr bits (bitXor up r))
+  jumping-rise hop = jumping-step g (omega (arith, g .ends)) (le-refl e) (λ v q p b. p (omega arith)) hop
+
+  pub jumping-fall : {up : ℕ} {w′ : List ℕ} → Hopped w (e - 1) up w′ → Jumping s w₀ w′ r a (e - 1) (bitOr bits (bitXor up r))
+  jumping-fall hop = jumping-step g (omega (arith, g .ends)) (omega arith) (λ v q p b l. p b (omega arith)) hop
+
+-- it has come to all
+pub jumping-end : {s w₀ w : List ℕ} {r a e bits : ℕ} → Jumping s w₀ w r a e bits → e ≤ a → Jumped s w₀ r bits w
+jumping-end {s} {w₀} {w} {r} {a} {e} g h =
+    let none : (v : ℕ) → Passed a e v = λ v b l. omega arith in record {
+      twice = λ k l. record { link = λ v b. g .between k l .passed v b (none v) };
+      all = λ z v b. g .all z v b (none v);
+    }
 
 -- ---- pass by pass
 
@@ -146,7 +178,7 @@ linked-elsewhere {s} {w} {r} {v} one l h q =
     (λ e. e)
 
 -- after a pass that gives 0 there is no loop
-pub no-cycle : {s w w′ : List ℕ} {r k bits : ℕ} → Links s w r k → Jumped s w r bits w′ → bits ≡ 0 → length s ≡ testPlace (cycle s)
+pub no-cycle : {s w w′ : List ℕ} {r k bits : ℕ} → Links s w r k → Jumped s w r bits w′ → bits ≡ 0 → length s ≡ firstLost s
 no-cycle {s} {k = k} g jumped z =
     cycle-place s (length s) (le-refl _)
     (λ v h. linked-root (g .rooted .one) (jumped .twice k (g .linked)) h (jumped .all z v h))

@@ -6,6 +6,5 @@ pub mod Rowwise
 pub mod Columnwise
 pub mod TableRows
 pub mod Lending
-pub mod Owning
 pub mod Staleness
 pub mod Claims

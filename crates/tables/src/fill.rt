@@ -9,8 +9,8 @@ ghost use Rattle.tree.specs.Buffers.{visits, labelCells, tourCells, liftCells};
 ghost use Rattle.tree.specs.Labels.{labelTable};
 ghost use Rattle.tree.specs.Tour.{tourTable};
 ghost use Rattle.tree.specs.Lifts.{liftTable};
-ghost use Rattle.tree.specs.Sections.{Same};
-ghost use Rattle.tree.specs.Ready.{Ready, Columns};
+ghost use Rattle.tree.specs.Ready.{Ready, Columns, TourOwn};
+ghost use Rattle.tree.specs.Tables.{lentBy};
 ghost use Rattle.tables.specs.Sections.{Fits, Built};
 
 // All three, and work is cleared.
@@ -21,7 +21,7 @@ pub(crate) fn tables(
     lift: &mut [u16],
     work: &mut [u16],
 )
-    requires { ⌜ Fits (record { parents = now parents; label = now label; tour = now tour; lift = now lift }) (now work) ⌝ }
+    requires { ⌜ Fits (lentBy parents label tour lift) (now work) ⌝ }
     ensures { λ _. ⌜ Built (now (parents .entry)) (now (label .exit)) (now (tour .exit)) (now (lift .exit)) (now (work .exit)) ⌝ }
 {
     self::label(parents, label, work);
@@ -36,7 +36,7 @@ pub(crate) fn label(parents: &[u16], table: &mut [u16], work: &mut [u16])
     ensures { λ _. ⌜ now (table .exit) ≡ labelTable (now (parents .entry)) ⌝ }
 {
     let n = parents.len();
-    let root = scan::next_root(parents, 0);
+    let root = scan::root(parents);
     labels::numbers(parents, root, work);
     cells::copy(table, 0, work, 2 * n, 2 * n);
     let mut k = 2;
@@ -64,7 +64,7 @@ pub(crate) fn tour(parents: &[u16], label: &[u16], table: &mut [u16], work: &mut
 // The rows of the tour table, behind the tour and the first positions.
 fn sparse(parents: &[u16], label: &[u16], table: &mut [u16], work: &mut [u16])
     requires { ⌜ Columns (now parents) (now label) (now work) 6 × (length (now table) ≡ tourCells (length (now parents)))
-        × Same (now table) 0 (tourTable (now parents)) 0 (visits (length (now parents)) + length (now parents)) ⌝ }
+        × TourOwn (now parents) (now table) (visits (length (now parents)) + length (now parents)) ⌝ }
     ensures { λ _. ⌜ now (table .exit) ≡ tourTable (now (parents .entry)) ⌝ }
 {
     let n = parents.len();

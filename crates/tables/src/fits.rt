@@ -2,9 +2,8 @@
 
 ghost use Prim.Native.Nat.{_≤_, _<_};
 ghost use mathlib.Core.Path.{_≡_};
-ghost use mathlib.Core.List.{[], _∷_};
 ghost use Rattle.tree.specs.Tests.{limit};
-ghost use Rattle.tree.specs.Buffers.{labelFit, tourFit, liftFit, workFit, furtherFit, firstUnfit};
+ghost use Rattle.tree.specs.Buffers.{sheetFits, tablesFits, firstUnfit, lowerUnfit};
 
 // The most parts that a sheet may have.
 pub(crate) const LIMIT: usize = 16384;
@@ -16,25 +15,25 @@ const TOUR: usize = 2;
 
 const LIFT: usize = 3;
 
-pub(crate) const WORK: usize = 4;
+const WORK: usize = 4;
 
-// The lowest buffer that does not fit a sheet of n parts, by their lengths; `further` where these four fit. Sheets of no part and of too many have
-// no tables, and are refused before their buffers are looked at.
+// The lowest of the tables and work that does not fit, by their lengths, for a sheet of n parts and a call that wants so much work; 0 where all fit. Sheets of
+// no part and of too many have no tables, and are refused before their buffers are looked at.
 pub(crate) fn first_unfit(
     n: usize,
     label: usize,
     tour: usize,
     lift: usize,
+    want: usize,
     work: usize,
-    further: usize,
 ) -> usize
-    ensures { λ r. ⌜ (0 < n → n ≤ limit → r ≡ firstUnfit (labelFit n label ∷ tourFit n tour ∷ liftFit n lift ∷ workFit n work ∷ furtherFit further ∷ [])) ⌝ }
+    ensures { λ r. ⌜ (0 < n → n ≤ limit → r ≡ firstUnfit (tablesFits n label tour lift want work)) ⌝ }
 {
     if n == 0 {
-        return further;
+        return 0;
     }
     if LIMIT < n {
-        return further;
+        return 0;
     }
     let m = 2 * n - 1;
     if label != 6 * n {
@@ -46,8 +45,31 @@ pub(crate) fn first_unfit(
     if lift != n * (bits::log2(n as u16) as usize + 1) {
         return LIFT;
     }
-    if work != 4 * n {
+    work_unfit(want, work)
+}
+
+// The number of work where it does not have so many cells, or 0.
+pub(crate) fn work_unfit(want: usize, work: usize) -> usize
+    ensures { λ r. ⌜ r ≡ firstUnfit (sheetFits want work) ⌝ }
+{
+    if work != want {
         return WORK;
     }
-    further
+    0
+}
+
+// The lower of two numbers of buffers that do not fit; 0 says that there is none.
+pub(crate) fn lower(a: usize, b: usize) -> usize
+    ensures { λ r. ⌜ r ≡ lowerUnfit a b ⌝ }
+{
+    if b == 0 {
+        return a;
+    }
+    if a == 0 {
+        return b;
+    }
+    if b < a {
+        return b;
+    }
+    a
 }

@@ -4,13 +4,13 @@
 ghost use mathlib.Core.Path.{_≡_};
 ghost use Prim.Native.Nat.{_<_};
 ghost use lib.ListN.{length, getD};
-ghost use Rattle.tree.specs.Tests.{testPlace, cycle};
+ghost use Rattle.tree.specs.Tests.{firstLost};
 ghost use Rattle.tables.specs.Jumps.{Rooted, Links, Hopped, Jumped};
 
 // The lowest part whose climb never meets the root; the number of parts where there is none.
 pub(crate) fn first_cycle(parents: &[u16], root: usize, work: &mut [u16]) -> usize
     requires { ⌜ Rooted (now parents) (now work) root ⌝ }
-    ensures { λ r. ⌜ r ≡ testPlace (cycle (now (parents .entry))) ⌝ }
+    ensures { λ r. ⌜ r ≡ firstLost (now (parents .entry)) ⌝ }
 {
     let n = parents.len();
     cells::copy(work, 0, parents, 0, n);
@@ -75,7 +75,7 @@ fn hop(v: usize, work: &mut [u16]) -> u16
 // The first part that is not linked to the root, where each link is as many steps up as there are parts; the number of parts where all are.
 fn first_unrooted(parents: &[u16], root: usize, work: &[u16]) -> usize
     requires { ⌜ Links (now parents) (now work) root (length (now parents)) ⌝ }
-    ensures { λ r. ⌜ r ≡ testPlace (cycle (now (parents .entry))) ⌝ }
+    ensures { λ r. ⌜ r ≡ firstLost (now (parents .entry)) ⌝ }
 {
     let n = parents.len();
     let mut v = 0;

@@ -12,10 +12,13 @@ use tree::Refusal;
 ghost use mathlib.Core.Path.{_≡_};
 ghost use Prim.Native.Nat.{_≤_, _<_};
 ghost use lib.ListN.{length};
+ghost use Rattle.tree.specs.Tree.{rootOf};
 ghost use Rattle.tree.specs.Verdict.{verdictOf};
 ghost use Rattle.tree.specs.Tests.{verdict, limit, treeTests};
 ghost use Rattle.tree.specs.Buffers.{workCells};
-ghost use Rattle.tables.specs.Check.{Tested, CheckGives};
+ghost use Rattle.tree.specs.Tables.{lentBy};
+ghost use Rattle.tree.specs.Ready.{Ready, NumbersIn};
+ghost use Rattle.tables.specs.Check.{Tested, SheetGives, CheckGives};
 ghost use Rattle.tables.specs.Lend.{BuildGives, LentGives};
 ghost use Rattle.tables.specs.Jumps.{Roomy};
 
@@ -24,11 +27,15 @@ ghost use Rattle.tables.specs.Jumps.{Roomy};
 pub fn check(parents: &[u16], work: &mut [u16]) -> Outcome
     ensures { λ r. ⌜ CheckGives (now (parents .entry)) (now (work .entry)) r (now (work .exit)) ⌝ }
 {
-    let unfit: usize = if work.len() == 4 * parents.len() {
-        0
-    } else {
-        fits::WORK
-    };
+    admit_sheet(parents, 0, work)
+}
+
+// The same for every call that is lent no tables: tests 1 to 7, of a call whose lowest further buffer that does not fit is `further`, or 0. It is for the calls
+// of other crates to begin with, and no call of a user's: the further buffers are not lent to it, so that number is taken as it is given.
+pub fn admit_sheet(parents: &[u16], further: usize, work: &mut [u16]) -> Outcome
+    ensures { λ r. ⌜ SheetGives (now (parents .entry)) further (now (work .entry)) r (now (work .exit)) ⌝ }
+{
+    let unfit = fits::lower(fits::work_unfit(4 * parents.len(), work.len()), further);
     admit(parents, unfit, work)
 }
 
@@ -41,17 +48,11 @@ pub fn build(
     lift: &mut [u16],
     work: &mut [u16],
 ) -> Outcome
-    ensures { λ r. ⌜ BuildGives (record { parents = now (parents .entry); label = now (label .entry); tour = now (tour .entry); lift = now (lift .entry) })
+    ensures { λ r. ⌜ BuildGives (lentBy (parents .entry) (label .entry) (tour .entry) (lift .entry))
         (now (work .entry)) r (now (label .exit)) (now (tour .exit)) (now (lift .exit)) (now (work .exit)) ⌝ }
 {
-    let unfit = fits::first_unfit(
-        parents.len(),
-        label.len(),
-        tour.len(),
-        lift.len(),
-        work.len(),
-        0,
-    );
+    let n = parents.len();
+    let unfit = fits::first_unfit(n, label.len(), tour.len(), lift.len(), 4 * n, work.len());
     let r = admit(parents, unfit, work);
     let Outcome::Accepted = r else {
         return r;
@@ -69,7 +70,7 @@ pub fn compare(
     lift: &[u16],
     work: &mut [u16],
 ) -> Outcome
-    ensures { λ r. ⌜ LentGives (record { parents = now (parents .entry); label = now (label .entry); tour = now (tour .entry); lift = now (lift .entry) })
+    ensures { λ r. ⌜ LentGives (lentBy (parents .entry) (label .entry) (tour .entry) (lift .entry))
         0 (now (work .entry)) r (now (work .exit)) ⌝ }
 {
     admit_lent(parents, label, tour, lift, 0, work)
@@ -85,17 +86,12 @@ pub fn admit_lent(
     further: usize,
     work: &mut [u16],
 ) -> Outcome
-    ensures { λ r. ⌜ LentGives (record { parents = now (parents .entry); label = now (label .entry); tour = now (tour .entry); lift = now (lift .entry) })
+    ensures { λ r. ⌜ LentGives (lentBy (parents .entry) (label .entry) (tour .entry) (lift .entry))
         further (now (work .entry)) r (now (work .exit)) ⌝ }
 {
-    let unfit = fits::first_unfit(
-        parents.len(),
-        label.len(),
-        tour.len(),
-        lift.len(),
-        work.len(),
-        further,
-    );
+    let n = parents.len();
+    let own = fits::first_unfit(n, label.len(), tour.len(), lift.len(), 4 * n, work.len());
+    let unfit = fits::lower(own, further);
     let r = admit(parents, unfit, work);
     let Outcome::Accepted = r else {
         return r;
@@ -103,6 +99,22 @@ pub fn admit_lent(
     let found = stale::tables(parents, label, tour, lift, work);
     scan::clear(work);
     found
+}
+
+// The root of an accepted sheet; of any other, the lowest part that names itself, or the number of parts where there is none.
+pub fn root(parents: &[u16]) -> usize
+    ensures { λ r. ⌜ r ≡ rootOf (now (parents .entry)) ⌝ }
+{
+    scan::root(parents)
+}
+
+// PREORDER and SIZE of an accepted sheet, in the second half of `work`, which has four cells for each part: for the calls of other crates that go by them. The
+// first half is used on the way.
+pub fn numbers(parents: &[u16], work: &mut [u16])
+    requires { ⌜ Ready (now parents) (now work) ⌝ }
+    ensures { λ _. ⌜ NumbersIn (now (parents .entry)) (now (work .exit)) ⌝ }
+{
+    labels::numbers(parents, root(parents), work);
 }
 
 // Tests 1 to 7, of a call whose lowest buffer that does not fit is `unfit`, or 0.
@@ -121,32 +133,32 @@ fn admit(parents: &[u16], unfit: usize, work: &mut [u16]) -> Outcome
         return Outcome::Refused(Refusal::WrongLength(unfit));
     }
     scan::clear(work);
-    let r = test_tree(parents, work);
+    let r = test_tree(parents, 0, work);
     scan::clear(work);
     r
 }
 
-// Tests 4 to 7. The loop test keeps its links in `work`.
-fn test_tree(parents: &[u16], work: &mut [u16]) -> Outcome
-    requires { ⌜ Roomy (now parents) (now work) ⌝ }
-    ensures { λ r. ⌜ verdictOf r ≡ verdict (treeTests (now (parents .entry))) ⌝ }
+// Tests 4 to 7, the parts counted from `shift` on. The loop test keeps its links in `work`.
+fn test_tree(parents: &[u16], shift: usize, work: &mut [u16]) -> Outcome
+    requires { ⌜ Roomy (now parents) (now work) × (shift ≤ limit) ⌝ }
+    ensures { λ r. ⌜ verdictOf r ≡ verdict (treeTests shift (now (parents .entry))) ⌝ }
 {
     let n = parents.len();
     let off = cells::first_from(parents, n);
     if off < n {
-        return Outcome::Refused(Refusal::ParentOutOfRange(off));
+        return Outcome::Refused(Refusal::ParentOutOfRange(shift + off));
     }
-    let root = scan::next_root(parents, 0);
+    let root = scan::root(parents);
     if n <= root {
         return Outcome::Refused(Refusal::NoRoot);
     }
     let second = scan::second_root(parents, root);
     if second < n {
-        return Outcome::Refused(Refusal::SecondRoot(second));
+        return Outcome::Refused(Refusal::SecondRoot(shift + second));
     }
     let v = jumps::first_cycle(parents, root, work);
     if v < n {
-        return Outcome::Refused(Refusal::Cycle(v));
+        return Outcome::Refused(Refusal::Cycle(shift + v));
     }
     Outcome::Accepted
 }

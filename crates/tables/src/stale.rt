@@ -11,13 +11,14 @@ ghost use Rattle.tree.specs.Buffers.{visits, labelCells, tourCells, liftCells};
 ghost use Rattle.tree.specs.Labels.{labelTable};
 ghost use Rattle.tree.specs.Tour.{tourTable};
 ghost use Rattle.tree.specs.Lifts.{liftTable};
-ghost use Rattle.tree.specs.Sections.{Same, firstDifference};
+ghost use Rattle.tree.specs.Sections.{firstDifference};
 ghost use mathlib.Core.List.{[], _∷_};
 ghost use Rattle.tree.specs.Tree.{rootOf};
-ghost use Rattle.tree.specs.Ready.{Ready, Columns};
-ghost use Rattle.cells.specs.Cells.{Agree};
+ghost use Rattle.tree.specs.Ready.{Ready, Columns, TourOwn};
+ghost use Rattle.cells.specs.Cells.{AgreeAt};
 ghost use Rattle.tree.specs.Verdict.{verdictOf};
 ghost use Rattle.tree.specs.Tests.{verdict, staleTable};
+ghost use Rattle.tree.specs.Tables.{lentBy};
 ghost use Rattle.tables.specs.Sections.{Fits};
 
 // Test 8: the three tables end to end.
@@ -28,9 +29,9 @@ pub(crate) fn tables(
     lift: &[u16],
     work: &mut [u16],
 ) -> Outcome
-    requires { ⌜ Fits (record { parents = now parents; label = now label; tour = now tour; lift = now lift }) (now work) ⌝ }
+    requires { ⌜ Fits (lentBy parents label tour lift) (now work) ⌝ }
     ensures { λ r. ⌜ verdictOf r ≡ verdict
-        (staleTable (record { parents = now (parents .entry); label = now (label .entry); tour = now (tour .entry); lift = now (lift .entry) }) ∷ []) ⌝ }
+        (staleTable (lentBy (parents .entry) (label .entry) (tour .entry) (lift .entry)) ∷ []) ⌝ }
 {
     let at = self::label(parents, label, work);
     if at < label.len() {
@@ -53,7 +54,7 @@ pub(crate) fn label(parents: &[u16], table: &[u16], work: &mut [u16]) -> usize
     ensures { λ r. ⌜ r ≡ firstDifference (now (table .entry)) (labelTable (now (parents .entry))) ⌝ }
 {
     let n = parents.len();
-    let root = scan::next_root(parents, 0);
+    let root = scan::root(parents);
     let same = numbers(parents, root, table, work);
     if same < 2 * n {
         return same;
@@ -72,7 +73,7 @@ pub(crate) fn label(parents: &[u16], table: &[u16], work: &mut [u16]) -> usize
 // How many cells of PREORDER and SIZE are the sheet's own before the first that is not. They are made only where they are not found to be the sheet's own.
 fn numbers(parents: &[u16], root: usize, table: &[u16], work: &mut [u16]) -> usize
     requires { ⌜ Ready (now parents) (now work) × (root ≡ rootOf (now parents)) × (length (now table) ≡ labelCells (length (now parents))) ⌝ }
-    ensures { λ r. ⌜ Agree (now (table .entry)) 0 (labelTable (now (parents .entry))) 0 (2 * length (now (parents .entry))) r ⌝ }
+    ensures { λ r. ⌜ AgreeAt (now (table .entry)) (labelTable (now (parents .entry))) 0 (2 * length (now (parents .entry))) r ⌝ }
 {
     let n = parents.len();
     if labels::numbers_hold(parents, root, table, work) {
@@ -105,7 +106,7 @@ pub(crate) fn tour(parents: &[u16], label: &[u16], table: &[u16], work: &mut [u1
 // The same, where the tour and the first positions are the sheet's own.
 fn sparse(parents: &[u16], label: &[u16], table: &[u16], work: &mut [u16]) -> usize
     requires { ⌜ Columns (now parents) (now label) (now work) 6 × (length (now table) ≡ tourCells (length (now parents)))
-        × Same (now table) 0 (tourTable (now parents)) 0 (visits (length (now parents)) + length (now parents)) ⌝ }
+        × TourOwn (now parents) (now table) (visits (length (now parents)) + length (now parents)) ⌝ }
     ensures { λ r. ⌜ r ≡ firstDifference (now (table .entry)) (tourTable (now (parents .entry))) ⌝ }
 {
     let n = parents.len();

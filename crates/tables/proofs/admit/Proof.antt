@@ -39,7 +39,7 @@ test-tree-requires c κs =
     let l = d .before .before in
     let fits = s .pre (pos-of-ne-zero (l .before .before .if1 .left)) (l .before .if2 .left) (l .if3 .left) in
     let same = d .clear .kept .0 in
-    record { small = l .before .if2 .left; room = omega arith }
+    (record { small = l .before .if2 .left; room = omega arith }, lit≤ tt)
 
 clear-requires-2 : tie.Need-clear-requires-2
 clear-requires-2 c κs = search needs
@@ -54,10 +54,10 @@ returns-4 c =
     let s = d .before .before .before .before .before .before .before in
     let l = d .before .before in
     let e = tree-decides _ (s .args .unfit) (pos-of-ne-zero (l .before .before .if1 .left)) (l .before .if2 .left) (l .if3 .left) in
-    let same = r .test-tree .kept .1 .0 ∙ d .clear .kept .0 in
+    let same = r .test-tree .kept .1 .1 .0 ∙ d .clear .kept .0 in
     record {
       outcome = r .test-tree .ensures ∙ sym e;
-      work = c .before .before .clear2 .ensures ∙ ap (λ k. replicate k 0) same ∙ sym (work-zero _ (treeTests _) (s .args .work .now) e (tree-later _));
+      work = c .before .before .clear2 .ensures ∙ ap (λ k. replicate k 0) same ∙ sym (work-zero _ (treeTests 0 _) (s .args .work .now) e (tree-later 0 _));
     }
 
 pub admit-spec : {M : Type 1} → statement M

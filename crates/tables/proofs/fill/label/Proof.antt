@@ -11,7 +11,6 @@ use Rattle.tree.specs.Ready.{Columns}
 use Rattle.tree.proofs.Cells.{label-length}
 use Rattle.tree.proofs.Columns.{ready-kept}
 use Rattle.tree.proofs.Differences.{same-none, same-all}
-use Rattle.tree.proofs.Roots.{root-of-next}
 use Rattle.tables.proofs.Sections.{copied-upto}
 use Rattle.labels.proofs.Stepping.{column-room}
 use Rattle.tables.proofs.Columnwise.{columns-more}
@@ -24,13 +23,13 @@ Inv-loop parents table₀ work₀ n root k₀ table work k = (2 ≤ k) × (k ≤
 abbrev μ-loop : tie.MeasureT-loop
 μ-loop parents table₀ work₀ n root k₀ table work k = 6 - k
 
-next-root-requires : tie.Need-next-root-requires Inv-loop μ-loop
-next-root-requires c κs = search needs
+root-requires : tie.Need-root-requires Inv-loop μ-loop
+root-requires c κs = search needs
 
 numbers-requires : tie.Need-numbers-requires Inv-loop μ-loop
 numbers-requires c κs =
     let s = c .before .before .before .before .before in
-    (s .pre .0, c .before .next-root .ensures ∙ sym (root-of-next _))
+    (s .pre .0, c .before .root .ensures)
 
 mul-copy : tie.Need-mul-copy Inv-loop μ-loop
 mul-copy c = search needs
@@ -63,7 +62,7 @@ column-requires c κs =
     let c3 = c .before .before .before in
     let c13 = c3 .before .before .before .before .before .before .before .before .before .before in
     let l = c3 .loop .inv in
-    (l .0, c .before .before .loop-test .taken, l .2, c13 .next-root .ensures ∙ sym (root-of-next _))
+    (l .0, c .before .before .loop-test .taken, l .2, c13 .root .ensures)
 
 mul-copy-3 : tie.Need-mul-copy-3 Inv-loop μ-loop
 mul-copy-3 c =
@@ -129,7 +128,7 @@ label-spec =
     (tie.spec
     Inv-loop
     μ-loop
-    next-root-requires
+    root-requires
     numbers-requires
     mul-copy
     mul-copy-2

@@ -1,16 +1,16 @@
 -- `tables::fill::lift` meets its contract: the rows up to the one at `at` are filled.
 -- Assumes nothing.
 use native.Mathlib.Omega.{arith}
+use borrow.Author.Needs.{needs}
 use Prim.Native.Nat.{_-_}
-use mathlib.Core.Path.{sym, _∙_}
+use mathlib.Core.Path.{_∙_}
 use lib.ListN.{length}
 use Rattle.tree.specs.Ready.{Ready}
-use Rattle.tree.proofs.Cells.{lift-length}
 use Rattle.tree.proofs.Columns.{ready-kept}
-use Rattle.tree.proofs.Differences.{same-none, same-all}
+use Rattle.tree.proofs.Differences.{same-none}
 use Rattle.tables.proofs.Sections.{copied-upto}
-use Rattle.tables.proofs.Rowwise.{rowwise-small, rowwise-less, rowwise-room, rowwise-next-fits, rowwise-next, rowwise-end}
-use Rattle.tables.proofs.TableRows.{LiftRows, lift-room, lift-first, lift-rows-start, lift-row}
+use Rattle.tables.proofs.Rowwise.{rowwise-small, rowwise-less, rowwise-room, rowwise-next-fits, rowwise-next, rowwise-all}
+use Rattle.tables.proofs.TableRows.{LiftRows, lift-first, lift-rows-start, lift-row}
 use Rattle.tables.proofs.fill.lift.Statement.{statement}
 use Rattle.tables.proofs.fill.lift.Tie as tie
 
@@ -21,12 +21,7 @@ abbrev μ-loop : tie.MeasureT-loop
 μ-loop parents table₀ work₀ n at₀ power₀ table work at power = length parents - power
 
 copy-requires : tie.Need-copy-requires Inv-loop μ-loop
-copy-requires c κs =
-    let s = c .before .before .before .before in
-    let e = s .pre .1 in
-    let room = lift-room (s .args .parents .now) in
-    let own = lift-length (s .args .parents .now) in
-    (omega arith, omega arith)
+copy-requires c κs = search needs
 
 loop-holds : tie.Need-loop-holds Inv-loop μ-loop
 loop-holds c =
@@ -80,21 +75,13 @@ loop-again c =
     (ready-kept (l .0) (m .kept .1 .1 .1 .0), rowwise-next (l .1) (c10 .loop-test .taken) (k .kept .0) (copied-upto (l .1 .same) (k .ensures) (m .ensures)))
 
 same-length : tie.Need-same-length Inv-loop μ-loop
-same-length c =
-    let l = c .before .loop .inv in
-    let s = c .before .before .before .before .before .before .before .before .before in
-    l .1 .cells ∙ lift-length _ ∙ sym (s .pre .1)
+same-length c = search needs
 
 same-length-2 : tie.Need-same-length-2 Inv-loop μ-loop
-same-length-2 c =
-    let l = c .before .loop .inv in
-    l .0 .room ∙ sym (c .before .before .before .before .before .before .before .before .before .pre .0 .room)
+same-length-2 c = search needs
 
 returns : tie.Need-returns Inv-loop μ-loop
-returns c =
-    let l = c .before .loop .inv .1 in
-    let e = rowwise-end l (c .loop-test .left) in
-    same-all _ _ (l .cells) (rw e at (l .same))
+returns c = rowwise-all (c .before .loop .inv .1) (c .loop-test .left)
 
 pub lift-spec : {M : Type 1} → statement M
 lift-spec =

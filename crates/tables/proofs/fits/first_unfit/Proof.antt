@@ -6,7 +6,7 @@ use Prim.Native.Nat.{ℕ, _+_, _-_, _*_, _≤_}
 use native.Mathlib.Nat.{le-trans, mul-le-mul-left, mul-le-mul-right}
 use mathlib.Core.Path.{sym, _∙_}
 use borrow.Author.Tests.{eq-eqb, ne-eqb}
-use Rattle.tree.proofs.Fits.{unfit-here, unfit-later, unfit-further}
+use Rattle.tree.proofs.Fits.{unfit-here, unfit-later}
 use Rattle.tables.proofs.fits.first_unfit.Statement.{statement}
 use Rattle.tables.proofs.fits.first_unfit.Tie as tie
 
@@ -88,29 +88,18 @@ returns-5 c =
     (unfit-later _ _ (eq-eqb _ _ (c4 .if3 .left)) ∙ unfit-later _ _ (eq-eqb _ _ (rw (c3 .log2 .ensures .is) at (c .before .before .if4 .left)))
     ∙ unfit-here _ _ (ne-eqb _ _ (rw (c .before .log22 .ensures .is) at (c .if5 .taken))))
 
-mul-if6 : tie.Need-mul-if6
-mul-if6 c = search needs
+work-unfit-requires : tie.Need-work-unfit-requires
+work-unfit-requires c κs = search needs
 
 returns-6 : tie.Need-returns-6
 returns-6 c =
     let c3 = c .before .before .before in
     let c4 = c3 .before in
-    let c5 = c4 .before in
     λ h b.
-    sym
-    (unfit-later _ _ (eq-eqb _ _ (c5 .if3 .left)) ∙ unfit-later _ _ (eq-eqb _ _ (rw (c4 .log2 .ensures .is) at (c3 .if4 .left)))
-    ∙ unfit-later _ _ (eq-eqb _ _ (rw (c .before .before .log22 .ensures .is) at (c .before .if5 .left))) ∙ unfit-here _ _ (ne-eqb _ _ (c .if6 .taken)))
-
-returns-7 : tie.Need-returns-7
-returns-7 c =
-    let c3 = c .before .before .before in
-    let c4 = c3 .before in
-    let c5 = c4 .before in
-    λ h b.
-    sym
-    (unfit-later _ _ (eq-eqb _ _ (c5 .if3 .left)) ∙ unfit-later _ _ (eq-eqb _ _ (rw (c4 .log2 .ensures .is) at (c3 .if4 .left)))
-    ∙ unfit-later _ _ (eq-eqb _ _ (rw (c .before .before .log22 .ensures .is) at (c .before .if5 .left))) ∙ unfit-later _ _ (eq-eqb _ _ (c .if6 .left))
-    ∙ unfit-further _)
+    c .work-unfit .ensures
+    ∙ sym
+    (unfit-later _ _ (eq-eqb _ _ (c4 .before .if3 .left)) ∙ unfit-later _ _ (eq-eqb _ _ (rw (c4 .log2 .ensures .is) at (c3 .if4 .left)))
+    ∙ unfit-later _ _ (eq-eqb _ _ (rw (c .before .before .log22 .ensures .is) at (c .before .if5 .left))))
 
 pub first-unfit-spec : {M : Type 1} → statement M
 first-unfit-spec =
@@ -135,6 +124,5 @@ first-unfit-spec =
     add-if5
     mul-if5
     returns-5
-    mul-if6
-    returns-6
-    returns-7)
+    work-unfit-requires
+    returns-6)

@@ -34,24 +34,23 @@ jump-rising-requires : tie.Need-jump-rising-requires Inv-loop μ-loop
 jump-rising-requires c κs = links-less zero-le (c .before .before .loop .inv .2)
 
 same-length : tie.Need-same-length Inv-loop μ-loop
-same-length c =
-    let l = c .before .before .before .before .before .before in
-    c .before .before .before .jump-rising .kept .1 .1 .0 ∙ l .loop .inv .1 ∙ l .before .before .before .copy .kept .0
+same-length c = search needs
 
 returns : tie.Need-returns Inv-loop μ-loop
-returns c = no-cycle (c .before .before .before .before .before .before .loop .inv .2) (c .before .before .before .jump-rising .ensures) (c .if1 .taken)
+returns c =
+    let c3 = c .before .before .before in
+    no-cycle (c3 .before .before .before .loop .inv .2) (c3 .jump-rising .ensures) (c .if1 .taken)
 
 jump-falling-requires : tie.Need-jump-falling-requires Inv-loop μ-loop
 jump-falling-requires c κs = links-less zero-le (risen (c .before .before .before .before))
 
 same-length-2 : tie.Need-same-length-2 Inv-loop μ-loop
-same-length-2 c =
-    let r = c .before .before .before .before .before .before .before .before in
-    let l = r .before .before .before in
-    c .before .before .before .jump-falling .kept .1 .1 .0 ∙ r .jump-rising .kept .1 .1 .0 ∙ l .loop .inv .1 ∙ l .before .before .before .copy .kept .0
+same-length-2 c = search needs
 
 returns-2 : tie.Need-returns-2 Inv-loop μ-loop
-returns-2 c = no-cycle (risen (c .before .before .before .before .before .before .before .before)) (c .before .before .before .jump-falling .ensures) (c .if2 .taken)
+returns-2 c =
+    let c3 = c .before .before .before in
+    no-cycle (risen (c3 .before .before .before .before .before)) (c3 .jump-falling .ensures) (c .if2 .taken)
 
 mul-steps : tie.Need-mul-steps Inv-loop μ-loop
 mul-steps c = search needs

@@ -48,7 +48,8 @@ loop-less c = search needs
 loop-again : tie.Need-loop-again Inv-loop μ-loop
 loop-again c =
     let s = c .before .before .before .before .pre in
-    (search needs, below-more _ _ (c .before .before .before .loop .inv .1) (linked-root (s .rooted .one) (s .linked) (c .before .before .loop-test .taken) (omega arith)))
+    let meets = linked-root (s .rooted .one) (s .linked) (c .before .before .loop-test .taken) (omega arith) in
+    (search needs, below-more _ _ (c .before .before .before .loop .inv .1) meets)
 
 returns-2 : tie.Need-returns-2 Inv-loop μ-loop
 returns-2 c =

@@ -30,14 +30,14 @@ room : (c : tie.In-loop Inv-loop μ-loop)
     c .before .loop .k * n + n ≤ labelCells n
 room c = column-room _ _ (c .loop-test .taken)
 
-next-root-requires : tie.Need-next-root-requires Inv-loop μ-loop
-next-root-requires c κs = search needs
+root-requires : tie.Need-root-requires Inv-loop μ-loop
+root-requires c κs = search needs
 
 numbers-requires : tie.Need-numbers-requires Inv-loop μ-loop
 unfolding rootOf
 numbers-requires c κs =
     let s = c .before .before .before .before .before in
-    (s .pre .0, c .before .next-root .ensures, s .pre .1)
+    (s .pre .0, c .before .root .ensures, s .pre .1)
 
 mul-if1 : tie.Need-mul-if1 Inv-loop μ-loop
 mul-if1 c = search needs
@@ -63,7 +63,7 @@ agree-column-requires : tie.Need-agree-column-requires Inv-loop μ-loop
 unfolding rootOf
 agree-column-requires c κs =
     let l = c .before .before .loop .inv in
-    (l .0, c .before .loop-test .taken, l .2, c .before .before .before .before .before .before .before .before .next-root .ensures)
+    (l .0, c .before .loop-test .taken, l .2, c .before .before .before .before .before .before .before .before .root .ensures)
 
 mul-result : tie.Need-mul-result Inv-loop μ-loop
 mul-result c =
@@ -132,7 +132,7 @@ label-spec =
     (tie.spec
     Inv-loop
     μ-loop
-    next-root-requires
+    root-requires
     numbers-requires
     mul-if1
     same-length

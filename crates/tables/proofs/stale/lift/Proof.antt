@@ -3,14 +3,13 @@
 use native.Mathlib.Omega.{arith}
 use borrow.Author.Needs.{needs}
 use Prim.Native.Nat.{_-_}
-use mathlib.Core.Path.{refl, sym, _∙_}
 use lib.ListN.{length}
 use Rattle.tree.specs.Ready.{Ready}
 use Rattle.tree.proofs.Differences.{same-none}
 use Rattle.tree.proofs.Columns.{ready-kept}
-use Rattle.tables.proofs.Rowwise.{rowwise-small, rowwise-less, rowwise-room, rowwise-next-room, rowwise-next, rowwise-none}
+use Rattle.tables.proofs.Rowwise.{rowwise-small, rowwise-less, rowwise-room, rowwise-next-room, rowwise-agreed, rowwise-parts, rowwise-none}
 use Rattle.tables.proofs.TableRows.{LiftRows, lift-room, lift-first, lift-rows-start, lift-row}
-use Rattle.tables.proofs.Sections.{agree-all, agree-parts, agree-parts-first}
+use Rattle.tables.proofs.Sections.{agree-all, agree-parts-first}
 use Rattle.tables.proofs.stale.lift.Statement.{statement}
 use Rattle.tables.proofs.stale.lift.Tie as tie
 
@@ -60,17 +59,13 @@ add-result-2 c =
     omega arith
 
 same-length : tie.Need-same-length Inv-loop μ-loop
-same-length c =
-    let c3 = c .before .before .before in
-    let s = c .before .before .before .before .before .before .before .before .before .before .before .before in
-    c3 .agree-lift .kept .1 .1 .1 .0 ∙ c3 .before .before .before .loop .inv .0 .room ∙ sym (s .pre .0 .room)
+same-length c = search needs
 
 returns-2 : tie.Need-returns-2 Inv-loop μ-loop
 returns-2 c =
     let c3 = c .before .before .before in
     let c5 = c3 .before .before in
-    let l = c5 .before .loop .inv in
-    agree-parts (l .1 .same) (c3 .agree-lift .ensures) (record { cell = λ x h. refl }) (rowwise-next-room (l .1) (c5 .loop-test .taken)) (c .if2 .taken)
+    rowwise-parts (c5 .before .loop .inv .1) (c5 .loop-test .taken) (c3 .agree-lift .ensures) (c .if2 .taken)
 
 add-at : tie.Need-add-at Inv-loop μ-loop
 add-at c =
@@ -94,8 +89,7 @@ loop-again c =
     let c3 = c .before .before .before in
     let c5 = c3 .before .before in
     let l = c5 .before .loop .inv in
-    let same = agree-all (l .1 .same) (c3 .agree-lift .ensures) (record { cell = λ x h. refl }) (c .if2 .left) in
-    (ready-kept (l .0) (c3 .agree-lift .kept .1 .1 .1 .0), rowwise-next (l .1) (c5 .loop-test .taken) refl same)
+    (ready-kept (l .0) (c3 .agree-lift .kept .1 .1 .1 .0), rowwise-agreed (l .1) (c5 .loop-test .taken) (c3 .agree-lift .ensures) (c .if2 .left))
 
 add-result-3 : tie.Need-add-result-3 Inv-loop μ-loop
 add-result-3 c =
@@ -103,9 +97,7 @@ add-result-3 c =
     omega arith
 
 same-length-2 : tie.Need-same-length-2 Inv-loop μ-loop
-same-length-2 c =
-    let s = c .before .before .before .before .before .before .before in
-    c .before .loop .inv .0 .room ∙ sym (s .pre .0 .room)
+same-length-2 c = search needs
 
 returns-3 : tie.Need-returns-3 Inv-loop μ-loop
 returns-3 c = rowwise-none (c .before .loop .inv .1) (c .loop-test .left)

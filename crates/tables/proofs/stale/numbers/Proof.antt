@@ -3,7 +3,6 @@
 use native.Mathlib.Omega.{arith}
 use borrow.Author.Needs.{needs}
 use native.Mathlib.Nat.{le-refl}
-use mathlib.Core.Path.{sym, _∙_}
 use Rattle.tree.proofs.Columns.{ready-kept}
 use Rattle.cells.proofs.Stretches.{agree-same}
 use Rattle.tables.proofs.stale.numbers.Statement.{statement}
@@ -22,7 +21,10 @@ returns : tie.Need-returns
 returns c = record { most = le-refl _; same = c .before .before .before .numbers-hold .ensures (c .if1 .taken); parts = λ h. absurd (omega arith) }
 
 numbers-requires : tie.Need-numbers-requires
-numbers-requires c κs = let s = c .before .before .before .before .before .before .before .before .before in (ready-kept (s .pre .0) (c .before .before .before .before .numbers-hold .kept .1 .1 .1 .0), s .pre .1)
+numbers-requires c κs =
+    let c4 = c .before .before .before .before in
+    let s = c4 .before .before .before .before .before in
+    (ready-kept (s .pre .0) (c4 .numbers-hold .kept .1 .1 .1 .0), s .pre .1)
 
 mul-agree : tie.Need-mul-agree
 mul-agree c = search needs
