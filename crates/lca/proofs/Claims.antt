@@ -12,8 +12,8 @@ use Rattle.tree.specs.Verdict.{Verdict, accepted, refused, numberOf, tracedOf}
 use Rattle.tree.specs.Tests.{Test, verdict}
 use Rattle.tree.specs.Buffers.{filled}
 use Rattle.tree.specs.Trail.{lifts}
+use Rattle.tree.specs.Pairs.{leftOf, rightOf}
 use Rattle.tree.proofs.Scans.{by-test}
-use Rattle.routes.specs.Pairs.{leftOf, rightOf}
 use Rattle.routes.specs.Answers.{Asked, trailVerdict, TrailGives}
 use Rattle.lca.specs.Returned.{numberIn, valueIn, Returned}
 
@@ -65,9 +65,9 @@ module _ {a : Asked} {rows work′ answer′ rows′ : List ℕ} {number value :
   pub trail-returned : (number ≡ numberIn (trailVerdict a rows))
       × (value ≡ valueIn (trailVerdict a rows) (lifts (a .lent) (leftOf (a .question) 0) (rightOf (a .question) 0)))
   trail-returned =
-      let (is, counts) = returned-verdict c (trailVerdict a rows) _ (λ r g. (g .outcome, g .count)) in
+      let (is, counts) = returned-verdict c (trailVerdict a rows) _ (λ r g. (g .answered .outcome, g .count)) in
       (is, counts ∙ value-counted (trailVerdict a rows) _)
 
   -- and 0 says that they accept
   pub trail-zero : number ≡ 0 → trailVerdict a rows ≡ accepted
-  trail-zero = zero-accepts c _ (λ r g. g .outcome)
+  trail-zero = zero-accepts c _ (λ r g. g .answered .outcome)

@@ -7,11 +7,12 @@ use tree::Refusal;
 use tree::Traced;
 ghost use mathlib.Core.Path.{_≡_};
 ghost use Rattle.tree.specs.Verdict.{numberOf, placeOf, verdictOf, tracedOf};
+ghost use Rattle.tree.specs.Tables.{lentBy};
 ghost use Rattle.tree.specs.Routes.{byLabels, byTour};
 ghost use Rattle.tree.specs.Trail.{byLifts};
 ghost use Rattle.tables.specs.Check.{CheckGives};
 ghost use Rattle.tables.specs.Lend.{BuildGives, LentGives};
-ghost use Rattle.routes.specs.Answers.{PairsGive, TrailGives, ListGives};
+ghost use Rattle.routes.specs.Answers.{askedBy, PairsGive, TrailGives, ListGives};
 ghost use Rattle.lca.specs.Returned.{numberIn, valueIn, outcomeOf, Returned};
 
 // Checks a sheet: `tables::check`.
@@ -34,7 +35,7 @@ pub extern "C" fn lca_build(
     value: &mut u64,
 ) -> u32
     ensures { λ number. ⌜ Returned outcomeOf
-        (λ r. BuildGives (record { parents = now (parents .entry); label = now (label .entry); tour = now (tour .entry); lift = now (lift .entry) })
+        (λ r. BuildGives (lentBy (parents .entry) (label .entry) (tour .entry) (lift .entry))
         (now (work .entry)) r (now (label .exit)) (now (tour .exit)) (now (lift .exit)) (now (work .exit)))
         number (now (value .exit)) ⌝ }
 {
@@ -53,7 +54,7 @@ pub extern "C" fn lca_compare(
     value: &mut u64,
 ) -> u32
     ensures { λ number. ⌜ Returned outcomeOf
-        (λ r. LentGives (record { parents = now (parents .entry); label = now (label .entry); tour = now (tour .entry); lift = now (lift .entry) })
+        (λ r. LentGives (lentBy (parents .entry) (label .entry) (tour .entry) (lift .entry))
         0 (now (work .entry)) r (now (work .exit)))
         number (now (value .exit)) ⌝ }
 {
@@ -73,12 +74,8 @@ pub extern "C" fn lca_pairs_by_labels(
     answer: &mut [u16],
     value: &mut u64,
 ) -> u32
-    ensures { λ number. ⌜ Returned outcomeOf (λ r. PairsGive byLabels (record {
-      lent = record { parents = now (parents .entry); label = now (label .entry); tour = now (tour .entry); lift = now (lift .entry) };
-      work = now (work .entry);
-      question = now (question .entry);
-      answer = now (answer .entry);
-    })
+    ensures { λ number. ⌜ Returned outcomeOf
+        (λ r. PairsGive byLabels (askedBy (parents .entry) (label .entry) (tour .entry) (lift .entry) (work .entry) (question .entry) (answer .entry))
         r (now (work .exit)) (now (answer .exit))) number (now (value .exit)) ⌝ }
 {
     let r = routes::pairs_by_labels(parents, label, tour, lift, work, question, answer);
@@ -97,12 +94,8 @@ pub extern "C" fn lca_pairs_by_tour(
     answer: &mut [u16],
     value: &mut u64,
 ) -> u32
-    ensures { λ number. ⌜ Returned outcomeOf (λ r. PairsGive byTour (record {
-      lent = record { parents = now (parents .entry); label = now (label .entry); tour = now (tour .entry); lift = now (lift .entry) };
-      work = now (work .entry);
-      question = now (question .entry);
-      answer = now (answer .entry);
-    })
+    ensures { λ number. ⌜ Returned outcomeOf
+        (λ r. PairsGive byTour (askedBy (parents .entry) (label .entry) (tour .entry) (lift .entry) (work .entry) (question .entry) (answer .entry))
         r (now (work .exit)) (now (answer .exit))) number (now (value .exit)) ⌝ }
 {
     let r = routes::pairs_by_tour(parents, label, tour, lift, work, question, answer);
@@ -121,12 +114,8 @@ pub extern "C" fn lca_pairs_by_lifts(
     answer: &mut [u16],
     value: &mut u64,
 ) -> u32
-    ensures { λ number. ⌜ Returned outcomeOf (λ r. PairsGive byLifts (record {
-      lent = record { parents = now (parents .entry); label = now (label .entry); tour = now (tour .entry); lift = now (lift .entry) };
-      work = now (work .entry);
-      question = now (question .entry);
-      answer = now (answer .entry);
-    })
+    ensures { λ number. ⌜ Returned outcomeOf
+        (λ r. PairsGive byLifts (askedBy (parents .entry) (label .entry) (tour .entry) (lift .entry) (work .entry) (question .entry) (answer .entry))
         r (now (work .exit)) (now (answer .exit))) number (now (value .exit)) ⌝ }
 {
     let r = routes::pairs_by_lifts(parents, label, tour, lift, work, question, answer);
@@ -145,12 +134,8 @@ pub extern "C" fn lca_list(
     answer: &mut [u16],
     value: &mut u64,
 ) -> u32
-    ensures { λ number. ⌜ Returned outcomeOf (λ r. ListGives (record {
-      lent = record { parents = now (parents .entry); label = now (label .entry); tour = now (tour .entry); lift = now (lift .entry) };
-      work = now (work .entry);
-      question = now (question .entry);
-      answer = now (answer .entry);
-    })
+    ensures { λ number. ⌜ Returned outcomeOf
+        (λ r. ListGives (askedBy (parents .entry) (label .entry) (tour .entry) (lift .entry) (work .entry) (question .entry) (answer .entry))
         r (now (work .exit)) (now (answer .exit))) number (now (value .exit)) ⌝ }
 {
     let r = routes::list(parents, label, tour, lift, work, question, answer);
@@ -170,12 +155,8 @@ pub extern "C" fn lca_trail(
     trail: &mut [u16],
     value: &mut u64,
 ) -> u32
-    ensures { λ number. ⌜ Returned tracedOf (λ r. TrailGives (record {
-      lent = record { parents = now (parents .entry); label = now (label .entry); tour = now (tour .entry); lift = now (lift .entry) };
-      work = now (work .entry);
-      question = now (question .entry);
-      answer = now (answer .entry);
-    })
+    ensures { λ number. ⌜ Returned tracedOf
+        (λ r. TrailGives (askedBy (parents .entry) (label .entry) (tour .entry) (lift .entry) (work .entry) (question .entry) (answer .entry))
         (now (trail .entry)) r (now (work .exit)) (now (answer .exit)) (now (trail .exit))) number (now (value .exit)) ⌝ }
 {
     let r = routes::trail(parents, label, tour, lift, work, question, answer, trail);

@@ -3,6 +3,7 @@
 -- claim. That there are such runs of whatever is asked is shown in RunsExist.
 -- Assumes nothing.
 use Prim.Native.Nat.{ℕ, _+_, _*_, _%_, _<_}
+use native.Mathlib.Nat.{mul-one}
 use native.Mathlib.Omega.{arith}
 use mathlib.Core.Path.{_≡_, refl, sym, ap, _∙_, subst}
 use mathlib.Core.List.{List, [], _∷_, List·Memᴰ·head, List·Memᴰ·tail}
@@ -12,11 +13,12 @@ use Rattle.tree.specs.declared.Outcome.the-variants.{Accepted}
 use Rattle.tree.specs.declared.Traced.the-variants.{Lifts}
 use Rattle.tree.specs.Tree.{Tree}
 use Rattle.tree.specs.Tests as tests
-use Rattle.tree.specs.Buffers.{trailCells}
+use Rattle.tree.specs.Buffers.{trailCells, answerCells}
 use Rattle.tree.specs.Lca.{Lca, lca}
 use Rattle.tree.specs.Sharing.{SameParts, SharedOut, members, firstInPreorder, lastInPreorder}
 use Rattle.tree.specs.Tables.{own}
 use Rattle.tree.specs.Routes.{byLabels, byTour}
+use Rattle.tree.specs.Pairs.{pairAt, pairs, eachPair}
 use Rattle.tree.specs.Trail.{trail, byLifts, lifts, trailBuffer, liftCount}
 use Rattle.tree.proofs.Orders.{member-at}
 use Rattle.tree.proofs.Lcas.{lca-found, lca-only, pair-found}
@@ -24,11 +26,10 @@ use Rattle.tree.proofs.Lists.{same-lca, ends-listed, ends-lca, shared-lca}
 use Rattle.tree.proofs.Acceptance.{accepted-tree}
 use Rattle.tree.proofs.ByLabels.{labels-lca}
 use Rattle.tree.proofs.ByLifts.{lifts-lca}
+use Rattle.tree.proofs.Pairs.{each-pair-length, each-pair-cell}
 use Rattle.tree.proofs.Claims.{rules-agree, trail-rows}
-use Rattle.routes.specs.Pairs.{pairAt, pairs, eachPair}
 use Rattle.routes.specs.Lends.{Some, Lends}
 use Rattle.routes.proofs.Named.{other-some, group-some, carriers-some}
-use Rattle.routes.proofs.Giving.{each-pair-length, each-pair-cell}
 use Rattle.routes.proofs.Runs.{asked, answers, LabelsRun, TourRun, LiftsRun, ListRun, TrailRun, traced, rowsBefore, rowsAfter, carrierCell}
 use Rattle.routes.proofs.Granted.{pairs-granted, list-granted, trail-granted}
 
@@ -41,9 +42,9 @@ pub record Runs (s : List ℕ) : Type 0 where
   pub labels : LabelsRun
   pub tour : TourRun
   pub lifts : LiftsRun
-  pub labels-lent : Lends s question (pairs question) (asked labels)
-  pub tour-lent : Lends s question (pairs question) (asked tour)
-  pub lifts-lent : Lends s question (pairs question) (asked lifts)
+  pub labels-lent : Lends s question (answerCells (length question)) (asked labels)
+  pub tour-lent : Lends s question (answerCells (length question)) (asked tour)
+  pub lifts-lent : Lends s question (answerCells (length question)) (asked lifts)
   -- "every list of one or more of its parts"
   pub listed : List ℕ
   pub some-listed : Some s listed
@@ -86,7 +87,7 @@ pub record Agree (s : List ℕ) (runs : Runs s) : Type 0 where
   -- "the routes by labels, by tour and by lifts give the same answers in every cell"
   pub labels-as-tour : answers (runs .labels) ≡ answers (runs .tour)
   pub tour-as-lifts : answers (runs .tour) ≡ answers (runs .lifts)
-  pub in-every-cell : length (answers (runs .labels)) ≡ pairs (runs .question)
+  pub in-every-cell : length (answers (runs .labels)) ≡ answerCells (length (runs .question))
   -- "and each pair's carrier is demand 2's"
   pub each-pair : (i : ℕ) → i < pairs (runs .question) → Lca s (pairAt (runs .question) i) (getD (answers (runs .labels)) i 0)
   -- the list's carrier, which "is that of its first and last in preorder"
@@ -163,13 +164,17 @@ module _ (s : List ℕ) (accepts : tests.Accepted s) (runs : Runs s) where
   agree =
       let rules = rules-agree s accepts in
       let some = runs .some-listed in
-      let (labels-yes, labels) = pairs-granted s accepts {rule = byLabels} {a = asked (runs .labels)} (runs .some-pairs) (runs .whole-pairs) (runs .labels-lent) (runs .labels .kept) in
-      let (tour-yes, tour) = pairs-granted s accepts {rule = byTour} {a = asked (runs .tour)} (runs .some-pairs) (runs .whole-pairs) (runs .tour-lent) (runs .tour .kept) in
-      let (lifts-yes, lifted) = pairs-granted s accepts {rule = byLifts} {a = asked (runs .lifts)} (runs .some-pairs) (runs .whole-pairs) (runs .lifts-lent) (runs .lifts .kept) in
+      let (labels-yes, labels) =
+      pairs-granted s accepts {rule = byLabels} {a = asked (runs .labels)} (runs .some-pairs) (runs .whole-pairs) (runs .labels-lent) (runs .labels .kept) in
+      let (tour-yes, tour) =
+      pairs-granted s accepts {rule = byTour} {a = asked (runs .tour)} (runs .some-pairs) (runs .whole-pairs) (runs .tour-lent) (runs .tour .kept) in
+      let (lifts-yes, lifted) =
+      pairs-granted s accepts {rule = byLifts} {a = asked (runs .lifts)} (runs .some-pairs) (runs .whole-pairs) (runs .lifts-lent) (runs .lifts .kept) in
       let (list-yes, list) = list-granted s accepts {a = asked (runs .list)} some (runs .list-lent) (runs .list .kept) in
       let (other-yes, other) = list-granted s accepts {a = asked (runs .other-list)} others (runs .other-lent) (runs .other-list .kept) in
       let (groups-yes, groups) = list-granted s accepts {a = asked (runs .of-groups)} carriers (runs .of-groups-lent) (runs .of-groups .kept) in
-      let (count, carrier, rows) = trail-granted s accepts {a = traced (runs .trail-of)} (runs .some-pair) (runs .trail-lent) (runs .trail-cells) (runs .trail-of .kept) in
+      let (count, carrier, rows) =
+      trail-granted s accepts {a = traced (runs .trail-of)} (runs .some-pair) (runs .trail-lent) (runs .trail-cells) (runs .trail-of .kept) in
       let found = lca-found tree (runs .listed) (some .listed) (some .parts) in
       let is : getD (answers (runs .list)) 0 0 ≡ lca s (runs .listed) = ap (λ (l : List ℕ). getD l 0 0) list in
       record {
@@ -184,7 +189,7 @@ module _ (s : List ℕ) (accepts : tests.Accepted s) (runs : Runs s) where
             labels ∙ same-answers (byLabels (own s)) (byTour (own s)) (runs .some-pairs) (λ x y hx hy. rules x y hx hy .0 ∙ sym (rules x y hx hy .1)) ∙ sym tour;
         tour-as-lifts =
             tour ∙ same-answers (byTour (own s)) (byLifts (own s)) (runs .some-pairs) (λ x y hx hy. rules x y hx hy .1 ∙ sym (rules x y hx hy .2)) ∙ sym lifted;
-        in-every-cell = ap length labels ∙ each-pair-length (byLabels (own s)) (runs .question);
+        in-every-cell = ap length labels ∙ each-pair-length (byLabels (own s)) (runs .question) ∙ sym (mul-one (pairs (runs .question)));
         each-pair = λ i h.
             let hx = runs .some-pairs .parts _ (member-at (runs .question) (2 * i) (omega arith)) in
             let hy = runs .some-pairs .parts _ (member-at (runs .question) (2 * i + 1) (omega arith)) in

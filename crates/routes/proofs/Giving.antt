@@ -1,6 +1,6 @@
 -- What each call gives, from its tests and, where they accept, from the answers that were stored.
 -- Assumes nothing.
-use Prim.Native.Nat.{ℕ, _+_, _*_, _<_}
+use Prim.Native.Nat.{ℕ, _<_}
 use native.Mathlib.Omega.{arith}
 use mathlib.Core.Path.{_≡_, sym, ap, _∙_, subst}
 use mathlib.Core.List.{List, [], _∷_}
@@ -18,20 +18,23 @@ use Rattle.tree.specs.Routes.{byTour}
 use Rattle.tree.specs.Sharing.{firstInPreorder, lastInPreorder}
 use Rattle.tree.specs.Trail.{trail, byLifts, lifts, trailBuffer}
 use Rattle.tree.specs.Nodes.{Pair, Listed}
-use Rattle.tree.proofs.Rows.{length-tabulate, cell-tabulate}
+use Rattle.tree.specs.Pairs.{leftOf, rightOf, eachPair}
 use Rattle.tree.proofs.Verdicts.{not-both}
 use Rattle.tree.proofs.Lcas.{lca-found, lca-only}
 use Rattle.tree.proofs.Lists.{ends-listed, ends-lca}
 use Rattle.tree.proofs.Answers.{filled-own, filled-kept}
 use Rattle.tree.proofs.Questions.{question-parts}
+use Rattle.tree.proofs.Stages.{stage-no, stage-yes}
+use Rattle.tree.proofs.Pairs.{question-pair, each-pair-cell}
+use Rattle.tree.proofs.Owning.{owned-is}
 use Rattle.tree.proofs.ByLabels.{labels-lca}
 use Rattle.tree.proofs.ByTour.{tour-lca}
 use Rattle.tree.proofs.ByLifts.{lifts-lca, lifts-count}
 use Rattle.routes.specs.declared.Route.{Route}
 use Rattle.routes.specs.declared.Route.the-variants.{Labels, Tour, Lifts}
-use Rattle.routes.specs.Pairs.{leftOf, rightOf, pairs, eachPair, ruleOf}
+use Rattle.routes.specs.Rules.{ruleOf}
 use Rattle.routes.specs.Answers.{Admitted, Asked, pairsUnfit, pairsVerdict, PairsGive, trailUnfit, trailVerdict, TrailGives, listUnfit, listVerdict, ListGives}
-use Rattle.routes.proofs.Asking.{answerable, owned-is}
+use Rattle.routes.proofs.Asking.{answerable}
 
 -- ---- a question of pairs
 
@@ -41,26 +44,13 @@ rule-lca Labels t = labels-lca t
 rule-lca Tour t = tour-lca t
 rule-lca Lifts t = lifts-lca t
 
-pub each-pair-length : (f : ℕ → ℕ → ℕ) (question : List ℕ) → length (eachPair f question) ≡ pairs question
-unfolding eachPair
-each-pair-length f question = length-tabulate _ (pairs question)
-
-pub each-pair-cell : (f : ℕ → ℕ → ℕ) (question : List ℕ) (i : ℕ) → i < pairs question → getD (eachPair f question) i 0 ≡ f (leftOf question i) (rightOf question i)
-unfolding eachPair
-each-pair-cell f question i h = cell-tabulate _ (pairs question) i h
-
--- a pair of a question is two parts
-pub question-pair : {s question : List ℕ} → Listed s question → (i : ℕ) → 2 * i + 1 < length question → Pair s (leftOf question i) (rightOf question i)
-question-pair listed i h = record { small = listed .small; left = listed .part _ (omega arith); right = listed .part _ h }
-
 module _ (route : Route) (a : Asked) {r : Outcome} {after : List ℕ} (given : Admitted (a .lent) (a .work) (a .question) (pairsUnfit a) r after) where
   -- a refused call leaves the answer as it was
   pub pairs-refused : {why : Refusal} → r ≡ Refused why → PairsGive (ruleOf route) a r after (a .answer)
   pairs-refused {why} e =
-      let no : pairsVerdict a ≡ refused (numberOf why) (placeOf why) = sym (given .outcome) ∙ ap verdictOf e in
+      let no : pairsVerdict a ≡ refused (numberOf why) (placeOf why) = stage-no given e in
       record {
-        outcome = given .outcome;
-        work = given .work;
+        answered = given;
         answer = filled-kept (pairsVerdict a) _ _ _ _ no;
         carriers = λ yes. absurd (not-both yes no);
       }
@@ -69,13 +59,12 @@ module _ (route : Route) (a : Asked) {r : Outcome} {after : List ℕ} (given : A
   pub pairs-answered : {answer′ : List ℕ} → r ≡ Accepted → answer′ ≡ eachPair (ruleOf route (own (a .lent .parents))) (a .question)
       → PairsGive (ruleOf route) a r after answer′
   pairs-answered {answer′} e stored =
-      let yes : pairsVerdict a ≡ accepted = sym (given .outcome) ∙ ap verdictOf e in
+      let yes : pairsVerdict a ≡ accepted = stage-yes given e in
       let ready = answerable (a .lent) (a .work) (a .question) (pairsUnfit a) yes in
       let same = owned-is (a .lent) (pairsUnfit a) (ready .owned) in
       let s = a .lent .parents in
       record {
-        outcome = given .outcome;
-        work = given .work;
+        answered = given;
         answer = stored ∙ ap (λ (t : Lent). eachPair (ruleOf route t) (a .question)) (sym same) ∙ filled-own (pairsVerdict a) _ _ yes;
         carriers = λ _ i h.
             let pair = question-pair (ready .listed) i (omega arith) in
@@ -93,9 +82,8 @@ module _ (a : Asked) (rows : List ℕ) {r : Outcome} {after : List ℕ} (given :
   trail-refused {why} e =
       let same : verdictOf (Refused why) ≡ trailVerdict a rows = sym (ap verdictOf e) ∙ given .outcome in
       record {
-        outcome = same;
+        answered = record { outcome = same; work = given .work };
         count = filled-kept (trailVerdict a rows) _ _ _ _ (sym same);
-        work = given .work;
         answer = filled-kept (trailVerdict a rows) _ _ _ _ (sym same);
         trail = filled-kept (trailVerdict a rows) _ _ _ _ (sym same);
         carrier = λ yes. absurd (not-both yes (sym same));
@@ -103,7 +91,8 @@ module _ (a : Asked) (rows : List ℕ) {r : Outcome} {after : List ℕ} (given :
       }
 
   -- an accepted one gives the trail of the question's pair
-  pub trail-answered : {count : ℕ} {answer′ rows′ : List ℕ} → r ≡ Accepted → count ≡ lifts (own (a .lent .parents)) (leftOf (a .question) 0) (rightOf (a .question) 0)
+  pub trail-answered : {count : ℕ} {answer′ rows′ : List ℕ} → r ≡ Accepted
+      → count ≡ lifts (own (a .lent .parents)) (leftOf (a .question) 0) (rightOf (a .question) 0)
       → answer′ ≡ byLifts (own (a .lent .parents)) (leftOf (a .question) 0) (rightOf (a .question) 0) ∷ []
       → rows′ ≡ trailBuffer (trail (own (a .lent .parents)) (leftOf (a .question) 0) (rightOf (a .question) 0))
       → length (a .question) ≡ 2
@@ -118,9 +107,8 @@ module _ (a : Asked) (rows : List ℕ) {r : Outcome} {after : List ℕ} (given :
       let pair = question-pair (ready .listed) 0 (omega arith) in
       let is : getD answer′ 0 0 ≡ byLifts (own s) u w = ap (λ (l : List ℕ). getD l 0 0) answered in
       record {
-        outcome = same;
+        answered = record { outcome = same; work = given .work };
         count = lifted ∙ ap (λ (t : Lent). lifts t u w) (sym mine) ∙ filled-own (trailVerdict a rows) _ _ (sym same);
-        work = given .work;
         answer = answered ∙ ap (λ (t : Lent). byLifts t u w ∷ []) (sym mine) ∙ filled-own (trailVerdict a rows) _ _ (sym same);
         trail = stored ∙ ap (λ (t : Lent). trailBuffer (trail t u w)) (sym mine) ∙ filled-own (trailVerdict a rows) _ _ (sym same);
         carrier = λ _. subst (Lca s (u ∷ w ∷ [])) (sym is) (lifts-lca (pair .small .tree) u w (pair .left) (pair .right));
@@ -152,10 +140,9 @@ ends-carrier {s} {question} listed =
 module _ (a : Asked) {r : Outcome} {after : List ℕ} (given : Admitted (a .lent) (a .work) (a .question) (listUnfit a) r after) where
   pub list-refused : {why : Refusal} → r ≡ Refused why → ListGives a r after (a .answer)
   list-refused {why} e =
-      let no : listVerdict a ≡ refused (numberOf why) (placeOf why) = sym (given .outcome) ∙ ap verdictOf e in
+      let no : listVerdict a ≡ refused (numberOf why) (placeOf why) = stage-no given e in
       record {
-        outcome = given .outcome;
-        work = given .work;
+        answered = given;
         answer = filled-kept (listVerdict a) _ _ _ _ no;
         carrier = λ yes. absurd (not-both yes no);
       }
@@ -163,12 +150,11 @@ module _ (a : Asked) {r : Outcome} {after : List ℕ} (given : Admitted (a .lent
   pub list-answered : {answer′ : List ℕ} → r ≡ Accepted → answer′ ≡ lca (a .lent .parents) (a .question) ∷ [] → ListGives a r after answer′
   list-answered {answer′} e stored =
       let s = a .lent .parents in
-      let yes : listVerdict a ≡ accepted = sym (given .outcome) ∙ ap verdictOf e in
+      let yes : listVerdict a ≡ accepted = stage-yes given e in
       let listed = answerable (a .lent) (a .work) (a .question) (listUnfit a) yes .listed in
       let is : getD answer′ 0 0 ≡ lca s (a .question) = ap (λ (l : List ℕ). getD l 0 0) stored in
       record {
-        outcome = given .outcome;
-        work = given .work;
+        answered = given;
         answer = stored ∙ filled-own (listVerdict a) _ _ yes;
         carrier = λ _. subst (Lca s (a .question)) (sym is)
             (lca-found (listed .small .tree) (a .question) (listed .some) (question-parts s (a .question) (listed .part)));

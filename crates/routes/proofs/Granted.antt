@@ -2,32 +2,28 @@
 -- is its definition's.
 -- Assumes nothing.
 use Prim.Native.Nat.{ℕ, _%_}
-use native.Mathlib.Nat.{le-of-eq}
 use mathlib.Core.Path.{_≡_, refl, sym, ap, _∙_, subst}
 use mathlib.Core.List.{List, [], _∷_}
-use borrow.Author.Tests.{eq-eqb}
 use lib.ListN.{length}
 use Rattle.tree.specs.declared.Outcome.{Outcome}
 use Rattle.tree.specs.declared.Outcome.the-variants.{Accepted}
 use Rattle.tree.specs.declared.Traced.{Traced}
 use Rattle.tree.specs.declared.Traced.the-variants.{Lifts, Refused}
-use Rattle.tree.specs.Verdict.{accepted, tracedOf}
-use Rattle.tree.specs.Tests.{verdict, sheetTests, lentTests, staleTable, questionTests}
+use Rattle.tree.specs.Verdict.{accepted, verdictOf, told, liftsOf}
 use Rattle.tree.specs.Tests as tests
-use Rattle.tree.specs.Buffers.{workCells, trailCells}
+use Rattle.tree.specs.Buffers.{workCells, trailCells, answerCells}
 use Rattle.tree.specs.Lca.{lca}
 use Rattle.tree.specs.Tables.{Lent, own}
+use Rattle.tree.specs.Lending.{askedVerdict}
+use Rattle.tree.specs.Pairs.{eachPair}
 use Rattle.tree.specs.Trail.{trail, byLifts, lifts, trailBuffer}
-use Rattle.tree.proofs.Verdicts.{not-both, accepted-on, accepted-case}
-use Rattle.tree.proofs.Answers.{stale-accepted, filled-own}
-use Rattle.tree.proofs.Fits.{unfit-later, unfit-last, unfit-further}
-use Rattle.tree.proofs.Differences.{difference-none}
+use Rattle.tree.proofs.Verdicts.{not-both, accepted-case}
+use Rattle.tree.proofs.Answers.{filled-own}
+use Rattle.tree.proofs.Fits.{pairs-fitting, trail-fitting, list-fitting}
 use Rattle.tree.proofs.Acceptance.{accepted-tree}
 use Rattle.tree.proofs.Questions.{parts-accepted}
-use Rattle.tree.proofs.Claims.{own-tables-fit}
-use Rattle.tables.specs.Lend.{unfitOf}
-use Rattle.routes.specs.Pairs.{pairs, eachPair}
-use Rattle.routes.specs.Answers.{askedVerdict, Asked, pairsUnfit, PairsGive, trailUnfit, TrailGives, listUnfit, ListGives}
+use Rattle.tree.proofs.Owning.{question-decides}
+use Rattle.routes.specs.Answers.{Asked, pairsUnfit, PairsGive, trailUnfit, TrailGives, listUnfit, ListGives}
 use Rattle.routes.specs.Lends.{Some, Lends}
 
 -- what a call is lent, written out
@@ -40,51 +36,36 @@ lends-is {s} {question} a l =
     ∙ ap (λ (q : List ℕ). record { lent = own s; work = a .work; question = q; answer = a .answer }) (l .asks)
 
 -- the further buffers of a call that is lent so fit: of pairs, of a list, of a trail
-pub pairs-lent-fit : {s question : List ℕ} {a : Asked} → Lends s question (pairs question) a → length question % 2 ≡ 0 → pairsUnfit (lending s question a) ≡ 0
-pairs-lent-fit l even = unfit-later _ _ (eq-eqb _ _ even) ∙ unfit-last _ (eq-eqb _ _ (l .answer-fits))
+pub pairs-lent-fit : {s question : List ℕ} {a : Asked} → Lends s question (answerCells (length question)) a → length question % 2 ≡ 0
+    → pairsUnfit (lending s question a) ≡ 0
+pairs-lent-fit l even = pairs-fitting _ _ even (l .answer-fits)
 
 pub list-lent-fit : {s question : List ℕ} {a : Asked} → Lends s question 1 a → listUnfit (lending s question a) ≡ 0
-list-lent-fit l = unfit-last _ (eq-eqb _ _ (l .answer-fits))
+list-lent-fit l = list-fitting _ (l .answer-fits)
 
 pub trail-lent-fit : {s : List ℕ} {x y : ℕ} {a : Asked} (rows : List ℕ) → Lends s (x ∷ y ∷ []) 1 a → length rows ≡ trailCells
     → trailUnfit (lending s (x ∷ y ∷ []) a) rows ≡ 0
-trail-lent-fit rows l whole = unfit-later _ _ refl ∙ unfit-later _ _ (eq-eqb _ _ (l .answer-fits)) ∙ unfit-last _ (eq-eqb _ _ whole)
+trail-lent-fit rows l whole = trail-fitting _ _ _ refl (l .answer-fits) whole
 
 -- a trail's answer that counts lifts is the case that says so
-lifts-case : (r : Traced) (count : ℕ) → tracedOf r .0 ≡ accepted → tracedOf r .1 ≡ count → r ≡ Lifts count
+lifts-case : (r : Traced) (count : ℕ) → verdictOf (told r) ≡ accepted → liftsOf r ≡ count → r ≡ Lifts count
 lifts-case (Lifts n) count e c = ap Lifts c
 lifts-case (Refused why) count e c = absurd (not-both e refl)
 
 module _ (s : List ℕ) (accepts : tests.Accepted s) where
-  -- no buffer does not fit
-  own-fits : (work : List ℕ) (further : ℕ) → length work ≡ workCells (length s) → further ≡ 0 → unfitOf (own s) work further ≡ 0
-  own-fits work further room fits =
-      let (label, tour, lift) = own-tables-fit s accepts in
-      unfit-later _ _ (eq-eqb _ _ label) ∙ unfit-later _ _ (eq-eqb _ _ tour) ∙ unfit-later _ _ (eq-eqb _ _ lift)
-      ∙ unfit-later _ _ (eq-eqb _ _ room) ∙ unfit-further further ∙ fits
-
-  -- so that the question alone decides
-  pub question-decides : (work question : List ℕ) (further : ℕ) → length work ≡ workCells (length s) → further ≡ 0
-      → askedVerdict (own s) work question further ≡ verdict (questionTests s question)
-  question-decides work question further room fits =
-      let buffer = unfitOf (own s) work further in
-      let sheet : verdict (sheetTests s buffer) ≡ accepted = ap (λ (b : ℕ). verdict (sheetTests s b)) (own-fits work further room fits) ∙ accepts in
-      let fresh = stale-accepted (own s) (le-of-eq (sym (difference-none _ _ (record { cell = λ x h. refl })))) in
-      accepted-on (lentTests (own s) buffer) (questionTests s question) (accepted-on (sheetTests s buffer) (staleTable (own s) ∷ []) sheet ∙ fresh)
-
-  -- and a question of its parts is accepted
+  -- a question of its parts is accepted
   pub granted : (work question : List ℕ) (further : ℕ) → length work ≡ workCells (length s) → further ≡ 0 → Some s question
       → askedVerdict (own s) work question further ≡ accepted
   granted work question further room fits some =
-      question-decides work question further room fits ∙ parts-accepted s question (accepted-tree s accepts .0) (some .listed) (some .parts)
+      question-decides s accepts work question further room fits ∙ parts-accepted s 0 question (accepted-tree s accepts .0) (some .listed) (some .parts)
 
   -- pairs by a rule
   pub pairs-granted : {rule : Lent → ℕ → ℕ → ℕ} {question : List ℕ} {a : Asked} {r : Outcome} {work′ answer′ : List ℕ} → Some s question → length question % 2 ≡ 0
-      → Lends s question (pairs question) a → PairsGive rule a r work′ answer′ → (r ≡ Accepted) × (answer′ ≡ eachPair (rule (own s)) question)
+      → Lends s question (answerCells (length question)) a → PairsGive rule a r work′ answer′ → (r ≡ Accepted) × (answer′ ≡ eachPair (rule (own s)) question)
   pairs-granted {rule} {question} {a} {r} {work′} {answer′} some even l given =
       let g = subst (λ (b : Asked). PairsGive rule b r work′ answer′) (lends-is a l) given in
       let yes = granted (a .work) question _ (l .work-fits) (pairs-lent-fit l even) some in
-      (accepted-case r (g .outcome ∙ yes), g .answer ∙ sym (filled-own _ _ _ yes))
+      (accepted-case r (g .answered .outcome ∙ yes), g .answer ∙ sym (filled-own _ _ _ yes))
 
   -- a list
   pub list-granted : {question : List ℕ} {a : Asked} {r : Outcome} {work′ answer′ : List ℕ} → Some s question → Lends s question 1 a
@@ -92,7 +73,7 @@ module _ (s : List ℕ) (accepts : tests.Accepted s) where
   list-granted {question} {a} {r} {work′} {answer′} some l given =
       let g = subst (λ (b : Asked). ListGives b r work′ answer′) (lends-is a l) given in
       let yes = granted (a .work) question _ (l .work-fits) (list-lent-fit l) some in
-      (accepted-case r (g .outcome ∙ yes), g .answer ∙ sym (filled-own _ _ _ yes))
+      (accepted-case r (g .answered .outcome ∙ yes), g .answer ∙ sym (filled-own _ _ _ yes))
 
   -- a trail
   pub trail-granted : {x y : ℕ} {a : Asked} {rows : List ℕ} {r : Traced} {work′ answer′ rows′ : List ℕ} → Some s (x ∷ y ∷ []) → Lends s (x ∷ y ∷ []) 1 a
@@ -100,5 +81,8 @@ module _ (s : List ℕ) (accepts : tests.Accepted s) where
       → (r ≡ Lifts (lifts (own s) x y)) × (answer′ ≡ byLifts (own s) x y ∷ []) × (rows′ ≡ trailBuffer (trail (own s) x y))
   trail-granted {x} {y} {a} {rows} {r} {work′} {answer′} {rows′} some l whole given =
       let g = subst (λ (b : Asked). TrailGives b rows r work′ answer′ rows′) (lends-is a l) given in
-      let yes = granted (a .work) (x ∷ y ∷ []) _ (l .work-fits) (trail-lent-fit rows l whole) some in
-      (lifts-case r _ (g .outcome ∙ yes) (g .count ∙ sym (filled-own _ _ _ yes)), g .answer ∙ sym (filled-own _ _ _ yes), g .trail ∙ sym (filled-own _ _ _ yes))
+      let yes = granted (a .work) (x ∷ y ∷ []) _ (l .work-fits) (trail-lent-fit rows l whole) some in (
+        lifts-case r _ (g .answered .outcome ∙ yes) (g .count ∙ sym (filled-own _ _ _ yes)),
+        g .answer ∙ sym (filled-own _ _ _ yes),
+        g .trail ∙ sym (filled-own _ _ _ yes),
+      )

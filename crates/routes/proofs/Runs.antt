@@ -9,7 +9,7 @@ use denote.Triple.Clauses.{AtExit}
 use borrow.Fn.Kinds.{Out, Dens, endedOf}
 use Rattle.tree.specs.declared.Outcome.{Outcome}
 use Rattle.tree.specs.declared.Traced.{Traced}
-use Rattle.routes.specs.Answers.{Asked}
+use Rattle.routes.specs.Answers.{Asked, askedBy}
 use Rattle.routes.proofs.pairs_by_labels.Reads as by-labels
 use Rattle.routes.proofs.pairs_by_tour.Reads as by-tour
 use Rattle.routes.proofs.pairs_by_lifts.Reads as by-lifts
@@ -33,12 +33,7 @@ module _ {promises : Out 7 list.ps list.r} (run : Run promises) where
   abbrev pub asked : Asked
   asked =
       let a = run .passed in
-      record {
-        lent = record { parents = now (a .0); label = now (a .1 .0); tour = now (a .1 .1 .0); lift = now (a .1 .1 .1 .0) };
-        work = now (a .1 .1 .1 .1 .0);
-        question = now (a .1 .1 .1 .1 .1 .0);
-        answer = now (a .1 .1 .1 .1 .1 .1 .0);
-      }
+      askedBy (a .0) (a .1 .0) (a .1 .1 .0) (a .1 .1 .1 .0) (a .1 .1 .1 .1 .0) (a .1 .1 .1 .1 .1 .0) (a .1 .1 .1 .1 .1 .1 .0)
 
   -- the answer's cells afterwards
   abbrev pub answers : List ℕ
@@ -72,12 +67,7 @@ module _ (run : TrailRun) where
   abbrev pub traced : Asked
   traced =
       let a = run .passed in
-      record {
-        lent = record { parents = now (a .0); label = now (a .1 .0); tour = now (a .1 .1 .0); lift = now (a .1 .1 .1 .0) };
-        work = now (a .1 .1 .1 .1 .0);
-        question = now (a .1 .1 .1 .1 .1 .0);
-        answer = now (a .1 .1 .1 .1 .1 .1 .0);
-      }
+      askedBy (a .0) (a .1 .0) (a .1 .1 .0) (a .1 .1 .1 .0) (a .1 .1 .1 .1 .0) (a .1 .1 .1 .1 .1 .0) (a .1 .1 .1 .1 .1 .1 .0)
 
   -- the trail's cells before and afterwards
   abbrev pub rowsBefore : List ℕ

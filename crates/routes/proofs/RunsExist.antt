@@ -17,13 +17,14 @@ use Rattle.tree.specs.Tests as tests
 use Rattle.tree.specs.Scan.{tabulate}
 use Rattle.tree.specs.Tree.{Tree}
 use Rattle.tree.specs.Lca.{Parts, Lca, lca}
-use Rattle.tree.specs.Buffers.{workCells, trailCells}
+use Rattle.tree.specs.Buffers.{workCells, trailCells, answerCells}
 use Rattle.tree.specs.Sharing.{SameParts, SharedOut, members}
 use Rattle.tree.specs.Labels.{labelTable}
 use Rattle.tree.specs.Tour.{tourTable}
 use Rattle.tree.specs.Lifts.{liftTable}
 use Rattle.tree.specs.Tables.{own}
 use Rattle.tree.specs.Routes.{byLabels, byTour}
+use Rattle.tree.specs.Pairs.{eachPair}
 use Rattle.tree.specs.Trail.{trail, byLifts, lifts, trailBuffer}
 use Rattle.tree.proofs.Rows.{length-tabulate, cell-tabulate}
 use Rattle.tree.proofs.Lcas.{lca-found, each-of-two}
@@ -31,7 +32,7 @@ use Rattle.tree.proofs.Answers.{work-accepted}
 use Rattle.tree.proofs.Acceptance.{accepted-tree}
 use Rattle.routes.specs.declared.Route.{Route}
 use Rattle.routes.specs.declared.Route.the-variants.{Labels, Tour, Lifts}
-use Rattle.routes.specs.Pairs.{pairs, eachPair, ruleOf}
+use Rattle.routes.specs.Rules.{ruleOf}
 use Rattle.routes.specs.Answers.{Admitted, Asked, pairsUnfit, PairsGive, listUnfit, ListGives, trailUnfit, TrailGives}
 use Rattle.routes.specs.Lends.{Some, Lends}
 use Rattle.routes.proofs.list.Kinds as list
@@ -113,10 +114,10 @@ module _ (s : List ℕ) (accepts : tests.Accepted s) where
 
   -- pairs by a route
   pairs-kept : (route : Route) (question : List ℕ) → Some s question → length question % 2 ≡ 0
-      → PairsGive (ruleOf route) (lent s question (pairs question)) Accepted (clear s) (eachPair (ruleOf route (own s)) question)
+      → PairsGive (ruleOf route) (lent s question (answerCells (length question))) Accepted (clear s) (eachPair (ruleOf route (own s)) question)
   pairs-kept route question some even =
-      let a = lent s question (pairs question) in
-      pairs-answered route a (admitted question (pairsUnfit a) (pairs-lent-fit (lends s question (pairs question)) even) some) refl refl
+      let a = lent s question (answerCells (length question)) in
+      pairs-answered route a (admitted question (pairsUnfit a) (pairs-lent-fit (lends s question (answerCells (length question))) even) some) refl refl
 
   -- a list
   list-kept : (question : List ℕ) → Some s question → ListGives (lent s question 1) Accepted (clear s) (lca s question ∷ [])
@@ -178,7 +179,7 @@ runs-exist s accepts question asked parts even listed other named parts-listed s
     λ g h. subst (Lca s _) (sym (cell g h)) (lca-found (tree s accepts) _ (each g h .listed) (each g h .parts)) in
     let of-groups = carriers-some some shared (tree s accepts) as-many each-lca in
     let pair = pair-some hx hy in
-    let pair-cells = pairs question in (
+    let pair-cells = answerCells (length question) in (
       record {
         question = question;
         some-pairs = some-pairs;

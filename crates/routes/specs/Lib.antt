@@ -1,3 +1,3 @@
-pub mod Pairs
+pub mod Rules
 pub mod Answers
 pub mod Lends

@@ -11,10 +11,11 @@ ghost use Rattle.tree.specs.Labels.{labelTable};
 ghost use Rattle.tree.specs.Tour.{tourTable};
 ghost use Rattle.tree.specs.Lifts.{liftTable};
 ghost use Rattle.tree.specs.Lca.{lca};
-ghost use Rattle.tree.specs.Tables.{Lent, own};
+ghost use Rattle.tree.specs.Tables.{own};
 ghost use Rattle.tree.specs.Trail.{trail, byLifts, lifts, trailBuffer};
 ghost use Rattle.tree.specs.Nodes.{Pair, Listed};
-ghost use Rattle.routes.specs.Pairs.{leftOf, rightOf, eachPair, ruleOf};
+ghost use Rattle.tree.specs.Pairs.{leftOf, rightOf, eachPair};
+ghost use Rattle.routes.specs.Rules.{ruleOf};
 
 // No cell.
 const NONE: u16 = 65535;
@@ -30,7 +31,7 @@ pub(crate) fn pairs(
     answer: &mut [u16],
 )
     requires { ⌜ Listed (now parents) (now question) × (length (now question) ≡ 2 * length (now answer))
-        × (record { parents = now parents; label = now label; tour = now tour; lift = now lift } ≡ own (now parents)) ⌝ }
+        × (now label ≡ labelTable (now parents)) × (now tour ≡ tourTable (now parents)) × (now lift ≡ liftTable (now parents)) ⌝ }
     ensures { λ _. ⌜ now (answer .exit) ≡ eachPair (ruleOf route (own (now (parents .entry)))) (now (question .entry)) ⌝ }
 {
     let mut i = 0;
@@ -61,7 +62,8 @@ fn carrier(
     x: usize,
     y: usize,
 ) -> usize
-    requires { ⌜ Pair (now parents) x y × (record { parents = now parents; label = now label; tour = now tour; lift = now lift } ≡ own (now parents)) ⌝ }
+    requires { ⌜ Pair (now parents) x y
+        × (now label ≡ labelTable (now parents)) × (now tour ≡ tourTable (now parents)) × (now lift ≡ liftTable (now parents)) ⌝ }
     ensures { λ r. ⌜ IsBelow (ruleOf route (own (now (parents .entry))) x y) (length (now (parents .entry))) r ⌝ }
 {
     match route {
@@ -86,7 +88,7 @@ pub(crate) fn trail(
         × (now (answer .exit) ≡ byLifts (own (now (parents .entry))) (leftOf (now (question .entry)) 0) (rightOf (now (question .entry)) 0) ∷ [])
         × (now (rows .exit) ≡ trailBuffer (trail (own (now (parents .entry))) (leftOf (now (question .entry)) 0) (rightOf (now (question .entry)) 0))) ⌝ }
 {
-    cells::fill(rows, 0, 64, NONE);
+    cells::fill_all(rows, NONE);
     let x = node(question, 0);
     let y = node(question, 1);
     let end = lifting::trail(parents, label, lift, x, y, rows);

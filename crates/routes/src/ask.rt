@@ -3,12 +3,10 @@
 use tree::Outcome;
 use tree::Refusal;
 ghost use mathlib.Core.Path.{_≡_};
-ghost use mathlib.Core.List.{[], _∷_};
-ghost use Prim.Native.Nat.{_≤_};
-ghost use lib.ListN.{length};
 ghost use Rattle.tree.specs.Verdict.{verdictOf};
 ghost use Rattle.tree.specs.Tests.{verdict, questionTests};
-ghost use Rattle.tree.specs.Buffers.{pairsFit, pairFit, pairsAnswerFit, answerFit, trailFit, firstUnfit};
+ghost use Rattle.tree.specs.Buffers.{pairsFits, trailFits, listFits, firstUnfit};
+ghost use Rattle.tree.specs.Tables.{lentBy};
 ghost use Rattle.tree.specs.Nodes.{Small};
 ghost use Rattle.routes.specs.Answers.{Admitted};
 
@@ -29,7 +27,7 @@ pub(crate) fn admit(
     question: &[u16],
     unfit: usize,
 ) -> Outcome
-    ensures { λ r. ⌜ Admitted (record { parents = now (parents .entry); label = now (label .entry); tour = now (tour .entry); lift = now (lift .entry) })
+    ensures { λ r. ⌜ Admitted (lentBy (parents .entry) (label .entry) (tour .entry) (lift .entry))
         (now (work .entry)) (now (question .entry)) unfit r (now (work .exit)) ⌝ }
 {
     let r = tables::admit_lent(parents, label, tour, lift, unfit, work);
@@ -42,7 +40,7 @@ pub(crate) fn admit(
 // Tests 9 to 11. Test 11 is never met: the root carries every part.
 fn test_question(parents: &[u16], question: &[u16]) -> Outcome
     requires { ⌜ Small (now parents) ⌝ }
-    ensures { λ r. ⌜ verdictOf r ≡ verdict (questionTests (now (parents .entry)) (now (question .entry))) ⌝ }
+    ensures { λ r. ⌜ verdictOf r ≡ verdict (questionTests (now (parents .entry)) 0 (now (question .entry))) ⌝ }
 {
     if question.len() == 0 {
         return Outcome::Refused(Refusal::NothingListed);
@@ -56,7 +54,7 @@ fn test_question(parents: &[u16], question: &[u16]) -> Outcome
 
 // The lowest further buffer of a call for pairs that does not fit, by its length, or 0.
 pub(crate) fn pairs_unfit(question: usize, answer: usize) -> usize
-    ensures { λ r. ⌜ r ≡ firstUnfit (pairsFit question ∷ pairsAnswerFit question answer ∷ []) ⌝ }
+    ensures { λ r. ⌜ r ≡ firstUnfit (pairsFits question answer) ⌝ }
 {
     if question % 2 != 0 {
         return QUESTION;
@@ -69,7 +67,7 @@ pub(crate) fn pairs_unfit(question: usize, answer: usize) -> usize
 
 // The same of a call for a trail.
 pub(crate) fn trail_unfit(question: usize, answer: usize, rows: usize) -> usize
-    ensures { λ r. ⌜ r ≡ firstUnfit (pairFit question ∷ answerFit answer ∷ trailFit rows ∷ []) ⌝ }
+    ensures { λ r. ⌜ r ≡ firstUnfit (trailFits question answer rows) ⌝ }
 {
     if question != 2 {
         return QUESTION;
@@ -85,7 +83,7 @@ pub(crate) fn trail_unfit(question: usize, answer: usize, rows: usize) -> usize
 
 // The same of a call for a list.
 pub(crate) fn list_unfit(answer: usize) -> usize
-    ensures { λ r. ⌜ r ≡ firstUnfit (answerFit answer ∷ []) ⌝ }
+    ensures { λ r. ⌜ r ≡ firstUnfit (listFits answer) ⌝ }
 {
     if answer != 1 {
         return ANSWER;

@@ -9,8 +9,8 @@ use tree::Outcome;
 use tree::Traced;
 ghost use Rattle.tree.specs.Routes.{byLabels, byTour};
 ghost use Rattle.tree.specs.Trail.{byLifts};
-ghost use Rattle.routes.specs.Pairs.{ruleOf};
-ghost use Rattle.routes.specs.Answers.{PairsGive, TrailGives, ListGives};
+ghost use Rattle.routes.specs.Rules.{ruleOf};
+ghost use Rattle.routes.specs.Answers.{askedBy, PairsGive, TrailGives, ListGives};
 
 // The three routes.
 pub enum Route {
@@ -29,12 +29,7 @@ pub fn pairs_by_labels(
     question: &[u16],
     answer: &mut [u16],
 ) -> Outcome
-    ensures { λ r. ⌜ PairsGive byLabels (record {
-      lent = record { parents = now (parents .entry); label = now (label .entry); tour = now (tour .entry); lift = now (lift .entry) };
-      work = now (work .entry);
-      question = now (question .entry);
-      answer = now (answer .entry);
-    })
+    ensures { λ r. ⌜ PairsGive byLabels (askedBy (parents .entry) (label .entry) (tour .entry) (lift .entry) (work .entry) (question .entry) (answer .entry))
         r (now (work .exit)) (now (answer .exit)) ⌝ }
 {
     pairs(
@@ -59,12 +54,7 @@ pub fn pairs_by_tour(
     question: &[u16],
     answer: &mut [u16],
 ) -> Outcome
-    ensures { λ r. ⌜ PairsGive byTour (record {
-      lent = record { parents = now (parents .entry); label = now (label .entry); tour = now (tour .entry); lift = now (lift .entry) };
-      work = now (work .entry);
-      question = now (question .entry);
-      answer = now (answer .entry);
-    })
+    ensures { λ r. ⌜ PairsGive byTour (askedBy (parents .entry) (label .entry) (tour .entry) (lift .entry) (work .entry) (question .entry) (answer .entry))
         r (now (work .exit)) (now (answer .exit)) ⌝ }
 {
     pairs(
@@ -89,12 +79,7 @@ pub fn pairs_by_lifts(
     question: &[u16],
     answer: &mut [u16],
 ) -> Outcome
-    ensures { λ r. ⌜ PairsGive byLifts (record {
-      lent = record { parents = now (parents .entry); label = now (label .entry); tour = now (tour .entry); lift = now (lift .entry) };
-      work = now (work .entry);
-      question = now (question .entry);
-      answer = now (answer .entry);
-    })
+    ensures { λ r. ⌜ PairsGive byLifts (askedBy (parents .entry) (label .entry) (tour .entry) (lift .entry) (work .entry) (question .entry) (answer .entry))
         r (now (work .exit)) (now (answer .exit)) ⌝ }
 {
     pairs(
@@ -120,12 +105,7 @@ pub fn pairs(
     question: &[u16],
     answer: &mut [u16],
 ) -> Outcome
-    ensures { λ r. ⌜ PairsGive (ruleOf route) (record {
-      lent = record { parents = now (parents .entry); label = now (label .entry); tour = now (tour .entry); lift = now (lift .entry) };
-      work = now (work .entry);
-      question = now (question .entry);
-      answer = now (answer .entry);
-    })
+    ensures { λ r. ⌜ PairsGive (ruleOf route) (askedBy (parents .entry) (label .entry) (tour .entry) (lift .entry) (work .entry) (question .entry) (answer .entry))
         r (now (work .exit)) (now (answer .exit)) ⌝ }
 {
     let unfit = ask::pairs_unfit(question.len(), answer.len());
@@ -149,12 +129,7 @@ pub fn trail(
     answer: &mut [u16],
     rows: &mut [u16],
 ) -> Traced
-    ensures { λ r. ⌜ TrailGives (record {
-      lent = record { parents = now (parents .entry); label = now (label .entry); tour = now (tour .entry); lift = now (lift .entry) };
-      work = now (work .entry);
-      question = now (question .entry);
-      answer = now (answer .entry);
-    })
+    ensures { λ r. ⌜ TrailGives (askedBy (parents .entry) (label .entry) (tour .entry) (lift .entry) (work .entry) (question .entry) (answer .entry))
         (now (rows .entry)) r (now (work .exit)) (now (answer .exit)) (now (rows .exit)) ⌝ }
 {
     let unfit = ask::trail_unfit(question.len(), answer.len(), rows.len());
@@ -177,12 +152,7 @@ pub fn list(
     question: &[u16],
     answer: &mut [u16],
 ) -> Outcome
-    ensures { λ r. ⌜ ListGives (record {
-      lent = record { parents = now (parents .entry); label = now (label .entry); tour = now (tour .entry); lift = now (lift .entry) };
-      work = now (work .entry);
-      question = now (question .entry);
-      answer = now (answer .entry);
-    })
+    ensures { λ r. ⌜ ListGives (askedBy (parents .entry) (label .entry) (tour .entry) (lift .entry) (work .entry) (question .entry) (answer .entry))
         r (now (work .exit)) (now (answer .exit)) ⌝ }
 {
     let unfit = ask::list_unfit(answer.len());

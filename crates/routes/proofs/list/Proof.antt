@@ -2,20 +2,16 @@
 -- Assumes nothing.
 use borrow.Author.Needs.{needs}
 use mathlib.Core.Path.{sym, _∙_}
-use Rattle.routes.specs.Answers.{Asked}
-use Rattle.routes.proofs.Asking.{admitted-as, admitted-answerable, list-fit}
+use Rattle.tree.proofs.Fits.{list-fit}
+use Rattle.routes.specs.Answers.{Asked, askedBy}
+use Rattle.routes.proofs.Asking.{admitted-as, admitted-answerable}
 use Rattle.routes.proofs.Giving.{list-refused, list-answered}
 use Rattle.routes.proofs.list.Statement.{statement}
 use Rattle.routes.proofs.list.Tie as tie
 
 -- what is lent
 abbrev asked : tie.Start → Asked
-asked c = record {
-  lent = record { parents = c .args .parents .now; label = c .args .label .now; tour = c .args .tour .now; lift = c .args .lift .now };
-  work = c .args .work .now;
-  question = c .args .question .now;
-  answer = c .args .answer .now;
-}
+asked c = let a = c .args in askedBy (a .parents) (a .label) (a .tour) (a .lift) (a .work) (a .question) (a .answer)
 
 list-unfit-requires : tie.Need-list-unfit-requires
 list-unfit-requires c κs = search needs
@@ -33,13 +29,19 @@ same-length : tie.Need-same-length
 same-length c = search needs
 
 returns : tie.Need-returns
-returns c = list-refused (asked (c .before .before .before .before .before .before .before .before .before .before .before .before .before .before)) (admitted-as (c .before .before .before .before .before .before .list-unfit .ensures) (c .before .before .before .before .admit .ensures)) (c .enum-told2 .given .1)
+returns c =
+    let c4 = c .before .before .before .before in
+    let c6 = c4 .before .before in
+    let s = c6 .before .before .before .before .before .before .before .before in
+    list-refused (asked s) (admitted-as (asked s) (c6 .list-unfit .ensures) (c4 .admit .ensures)) (c .enum-told2 .given .1)
 
 list-requires : tie.Need-list-requires
 list-requires c κs =
-    let given = c .before .before .before .before .before .admit .ensures in
-    let ready = admitted-answerable given (c .before .enum-told .given .1) in
-    (ready .listed, list-fit _ (sym (c .before .before .before .before .before .before .before .list-unfit .ensures) ∙ ready .owned .fits), ready .owned .label, ready .owned .tour)
+    let c5 = c .before .before .before .before .before in
+    let c7 = c5 .before .before in
+    let s = c7 .before .before .before .before .before .before .before .before in
+    let ready = admitted-answerable (asked s) _ (c5 .admit .ensures) (c .before .enum-told .given .1) in
+    (ready .listed, list-fit _ (sym (c7 .list-unfit .ensures) ∙ ready .owned .fits), ready .owned .label, ready .owned .tour)
 
 same-length-2 : tie.Need-same-length-2
 same-length-2 c = search needs
@@ -49,7 +51,11 @@ same-length-3 c = search needs
 
 returns-2 : tie.Need-returns-2
 returns-2 c =
-    list-answered (asked (c .before .before .before .before .before .before .before .before .before .before .before .before .before .before .before .before .before .before)) (admitted-as (c .before .before .before .before .before .before .before .before .before .before .list-unfit .ensures) (c .before .before .before .before .before .before .before .before .admit .ensures)) (c .before .before .before .before .enum-told .given .1) (c .before .before .list .ensures)
+    let c8 = c .before .before .before .before .before .before .before .before in
+    let c10 = c8 .before .before in
+    let s = c10 .before .before .before .before .before .before .before .before in
+    list-answered (asked s) (admitted-as (asked s) (c10 .list-unfit .ensures) (c8 .admit .ensures)) (c .before .before .before .before .enum-told .given .1)
+    (c .before .before .list .ensures)
 
 pub list-spec : {M : Type 1} → statement M
 list-spec =

@@ -1,21 +1,19 @@
 -- `routes::pairs` meets its contract: the tests decide, and where they accept, each pair's carrier is stored.
 -- Assumes nothing.
+use native.Mathlib.Omega.{arith}
 use borrow.Author.Needs.{needs}
 use mathlib.Core.Path.{sym, _∙_}
-use Rattle.routes.specs.Answers.{Asked}
-use Rattle.routes.proofs.Asking.{admitted-as, admitted-answerable, owned-is, pairs-fit}
+use Rattle.tree.proofs.Fits.{pairs-fit}
+use Rattle.routes.specs.Answers.{Asked, askedBy}
+use Rattle.routes.proofs.Asking.{admitted-as, admitted-answerable}
 use Rattle.routes.proofs.Giving.{pairs-refused, pairs-answered}
 use Rattle.routes.proofs.pairs.Statement.{statement}
 use Rattle.routes.proofs.pairs.Tie as tie
+use lib.ListN.{length}
 
 -- what is lent
 abbrev asked : tie.Start → Asked
-asked c = record {
-  lent = record { parents = c .args .parents .now; label = c .args .label .now; tour = c .args .tour .now; lift = c .args .lift .now };
-  work = c .args .work .now;
-  question = c .args .question .now;
-  answer = c .args .answer .now;
-}
+asked c = let a = c .args in askedBy (a .parents) (a .label) (a .tour) (a .lift) (a .work) (a .question) (a .answer)
 
 pairs-unfit-requires : tie.Need-pairs-unfit-requires
 pairs-unfit-requires c κs = search needs
@@ -34,13 +32,19 @@ same-length c = search needs
 
 returns : tie.Need-returns
 returns c =
-    let s = c .before .before .before .before .before .before .before .before .before .before .before .before .before .before in
-    pairs-refused (s .args .route) (asked s) (admitted-as (c .before .before .before .before .before .before .pairs-unfit .ensures) (c .before .before .before .before .admit .ensures)) (c .enum-told2 .given .1)
+    let c4 = c .before .before .before .before in
+    let c6 = c4 .before .before in
+    let s = c6 .before .before .before .before .before .before .before .before in
+    pairs-refused (s .args .route) (asked s) (admitted-as (asked s) (c6 .pairs-unfit .ensures) (c4 .admit .ensures)) (c .enum-told2 .given .1)
 
 pairs-requires : tie.Need-pairs-requires
 pairs-requires c κs =
-    let ready = admitted-answerable (c .before .before .before .before .before .admit .ensures) (c .before .enum-told .given .1) in
-    (ready .listed, pairs-fit _ _ (sym (c .before .before .before .before .before .before .before .pairs-unfit .ensures) ∙ ready .owned .fits), owned-is _ _ (ready .owned))
+    let c5 = c .before .before .before .before .before in
+    let c7 = c5 .before .before in
+    let s = c7 .before .before .before .before .before .before .before .before in
+    let ready = admitted-answerable (asked s) _ (c5 .admit .ensures) (c .before .enum-told .given .1) in
+    let (even, cells) = pairs-fit (length (s .args .question .now)) (length (s .args .answer .now)) (sym (c7 .pairs-unfit .ensures) ∙ ready .owned .fits) in
+    (ready .listed, omega arith, ready .owned .label, ready .owned .tour, ready .owned .lift)
 
 same-length-2 : tie.Need-same-length-2
 same-length-2 c = search needs
@@ -50,8 +54,11 @@ same-length-3 c = search needs
 
 returns-2 : tie.Need-returns-2
 returns-2 c =
-    let s = c .before .before .before .before .before .before .before .before .before .before .before .before .before .before .before .before .before .before in
-    pairs-answered (s .args .route) (asked s) (admitted-as (c .before .before .before .before .before .before .before .before .before .before .pairs-unfit .ensures) (c .before .before .before .before .before .before .before .before .admit .ensures)) (c .before .before .before .before .enum-told .given .1) (c .before .before .pairs .ensures)
+    let c8 = c .before .before .before .before .before .before .before .before in
+    let c10 = c8 .before .before in
+    let s = c10 .before .before .before .before .before .before .before .before in
+    pairs-answered (s .args .route) (asked s) (admitted-as (asked s) (c10 .pairs-unfit .ensures) (c8 .admit .ensures))
+    (c .before .before .before .before .enum-told .given .1) (c .before .before .pairs .ensures)
 
 pub pairs-spec : {M : Type 1} → statement M
 pairs-spec =

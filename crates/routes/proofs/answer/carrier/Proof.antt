@@ -1,8 +1,6 @@
 -- `routes::answer::carrier` meets its contract: each route has its rule.
 -- Assumes nothing.
 use borrow.Author.Needs.{needs}
-use mathlib.Core.Path.{ap}
-use Rattle.tree.specs.Tables.{Lent}
 use Rattle.routes.proofs.answer.carrier.Statement.{statement}
 use Rattle.routes.proofs.answer.carrier.Tie as tie
 
@@ -10,19 +8,19 @@ enum-told : tie.Need-enum-told
 enum-told c = search needs
 
 by-labels-requires : tie.Need-by-labels-requires
-by-labels-requires c κs = (c .before .before .before .before .before .before .pre .0, ap (λ (t : Lent). t .label) (c .before .before .before .before .before .before .pre .1))
+by-labels-requires c κs = let s = c .before .before .before .before .before .before in (s .pre .0, s .pre .1)
 
 enum-told-2 : tie.Need-enum-told-2
 enum-told-2 c = search needs
 
 by-tour-requires : tie.Need-by-tour-requires
-by-tour-requires c κs = (c .before .before .before .before .before .before .pre .0, ap (λ (t : Lent). t .label) (c .before .before .before .before .before .before .pre .1), ap (λ (t : Lent). t .tour) (c .before .before .before .before .before .before .pre .1))
+by-tour-requires c κs = let s = c .before .before .before .before .before .before in (s .pre .0, s .pre .1, s .pre .2)
 
 enum-told-3 : tie.Need-enum-told-3
 enum-told-3 c = search needs
 
 by-lifts-requires : tie.Need-by-lifts-requires
-by-lifts-requires c κs = (c .before .before .before .before .before .before .pre .0, ap (λ (t : Lent). t .label) (c .before .before .before .before .before .before .pre .1), ap (λ (t : Lent). t .lift) (c .before .before .before .before .before .before .pre .1))
+by-lifts-requires c κs = let s = c .before .before .before .before .before .before in (s .pre .0, s .pre .1, s .pre .3)
 
 returns : tie.Need-returns
 returns c = rw (c .before .enum-told .given .1) (c .by-labels .ensures)

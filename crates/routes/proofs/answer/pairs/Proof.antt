@@ -9,8 +9,9 @@ use lib.ListN.{length, length-set}
 use Rattle.tree.specs.Tables.{own}
 use Rattle.tree.specs.Sections.{Same}
 use Rattle.tree.proofs.Differences.{same-none, same-store, same-all}
-use Rattle.routes.specs.Pairs.{eachPair, ruleOf}
-use Rattle.routes.proofs.Giving.{each-pair-length, each-pair-cell}
+use Rattle.tree.specs.Pairs.{eachPair}
+use Rattle.tree.proofs.Pairs.{each-pair-length, each-pair-cell}
+use Rattle.routes.specs.Rules.{ruleOf}
 use Rattle.routes.proofs.answer.pairs.Statement.{statement}
 use Rattle.routes.proofs.answer.pairs.Tie as tie
 
@@ -38,13 +39,16 @@ node-requires-2 c κs = search needs
 
 carrier-requires : tie.Need-carrier-requires Inv-loop μ-loop
 carrier-requires c κs =
-    let listed = c .before .before .before .before .before .before .before .before .before .before .pre .0 in (
+    let s = c .before .before .before .before .before .before .before .before .before .before in
+    let listed = s .pre .0 in (
       record {
         small = listed .small;
         left = rw (c .before .node .ensures) (listed .part _ (omega arith));
         right = rw (c .node2 .ensures) (listed .part _ (omega arith));
       },
-      c .before .before .before .before .before .before .before .before .before .before .pre .2,
+      s .pre .2,
+      s .pre .3,
+      s .pre .4,
     )
 
 cast-answer : tie.Need-cast-answer Inv-loop μ-loop
@@ -64,11 +68,13 @@ loop-less c = simp length-set (omega arith)
 
 loop-again : tie.Need-loop-again Inv-loop μ-loop
 loop-again c =
-    let l = c .before .before .before .before .loop in
+    let c4 = c .before .before .before .before in
+    let l = c4 .loop in
+    let question = c4 .before .before .before .before .before .before .before .args .question .now in
     let stored = rw (c .before .before .node .ensures, c .before .node2 .ensures) at (c .carrier .ensures .is) in (
       simp length-set (omega arith),
       simp length-set (l .inv .1),
-      same-store (omega arith) (l .inv .2) (rw zero-add (stored ∙ sym (each-pair-cell _ (c .before .before .before .before .before .before .before .before .before .before .before .args .question .now) (l .i) (omega arith)))),
+      same-store (omega arith) (l .inv .2) (rw zero-add (stored ∙ sym (each-pair-cell _ question (l .i) (omega arith)))),
     )
 
 same-length : tie.Need-same-length Inv-loop μ-loop

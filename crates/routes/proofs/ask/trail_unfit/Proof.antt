@@ -14,11 +14,13 @@ returns-2 c = sym (unfit-later _ _ (eq-eqb _ _ (c .before .if1 .left)) ∙ unfit
 
 returns-3 : tie.Need-returns-3
 returns-3 c =
-    sym (unfit-later _ _ (eq-eqb _ _ (c .before .before .if1 .left)) ∙ unfit-later _ _ (eq-eqb _ _ (c .before .if2 .left)) ∙ unfit-here _ _ (ne-eqb _ _ (c .if3 .taken)))
+    sym (unfit-later _ _ (eq-eqb _ _ (c .before .before .if1 .left)) ∙ unfit-later _ _ (eq-eqb _ _ (c .before .if2 .left))
+    ∙ unfit-here _ _ (ne-eqb _ _ (c .if3 .taken)))
 
 returns-4 : tie.Need-returns-4
 returns-4 c =
-    sym (unfit-later _ _ (eq-eqb _ _ (c .before .before .if1 .left)) ∙ unfit-later _ _ (eq-eqb _ _ (c .before .if2 .left)) ∙ unfit-last _ (eq-eqb _ _ (c .if3 .left)))
+    sym (unfit-later _ _ (eq-eqb _ _ (c .before .before .if1 .left)) ∙ unfit-later _ _ (eq-eqb _ _ (c .before .if2 .left))
+    ∙ unfit-last _ (eq-eqb _ _ (c .if3 .left)))
 
 pub trail-unfit-spec : {M : Type 1} → statement M
 trail-unfit-spec = tie.close (tie.spec returns returns-2 returns-3 returns-4)
