@@ -1,26 +1,27 @@
--- What is printed of a question: where the tables are the sheet's own and the buffers fit, the question alone decides, and the call gives its carrier and its lifts.
+-- What is printed of a question: where the tables are the sheet's own and the buffers fit, the question alone decides, and the call gives its carrier
+-- and its lifts.
 -- Assumes nothing.
 use Prim.Native.Nat.{ℕ, _<_}
 use mathlib.Core.Path.{_≡_, refl, sym, ap, _∙_}
 use mathlib.Core.List.{List, [], _∷_}
-use borrow.Author.Tests.{eq-eqb}
 use lib.ListN.{length, getD}
 use Rattle.tree.specs.declared.Refusal.{Refusal}
 use Rattle.tree.specs.declared.Outcome.{Outcome}
 use Rattle.tree.specs.declared.Outcome.the-variants as outcome
 use Rattle.tree.specs.declared.Traced.{Traced}
 use Rattle.tree.specs.declared.Traced.the-variants as traced
-use Rattle.tree.specs.Verdict.{Verdict, accepted, refused, verdictOf, tracedOf}
+use Rattle.tree.specs.Verdict.{Verdict, accepted, refused, verdictOf, told, liftsOf}
 use Rattle.tree.specs.Tests.{verdict, limit, questionTests}
 use Rattle.tree.specs.Buffers.{trailCells}
 use Rattle.tree.specs.Lca.{Lca, lca}
 use Rattle.tree.specs.Tables.{Lent}
 use Rattle.tree.specs.Trail.{liftCount}
-use Rattle.tree.proofs.Fits.{unfit-later, unfit-last}
+use Rattle.tree.specs.Lending.{askedVerdict}
+use Rattle.tree.proofs.Fits.{trail-fitting, list-fitting}
 use Rattle.tree.proofs.Questions.{question-parts, question-accepted}
 use Rattle.tree.proofs.Claims.{one-carrier}
-use Rattle.routes.specs.Answers.{askedVerdict, Asked, TrailGives, ListGives}
-use Rattle.routes.proofs.Granted.{question-decides}
+use Rattle.tree.proofs.Owning.{question-decides}
+use Rattle.routes.specs.Answers.{Asked, TrailGives, ListGives}
 use Rattle.console.specs.Forms.{pair, many}
 use Rattle.console.specs.Print.{pairLine, manyLine, given}
 use Rattle.console.specs.Run.{answer}
@@ -43,16 +44,16 @@ lending t work question cells = record { lent = t; work = work; question = quest
 
 module _ {t : Lent} {work : List ℕ} (stands : Stands t work) where
   -- the question alone decides
-  decides : (question : List ℕ) (further : ℕ) → further ≡ 0 → askedVerdict t work question further ≡ verdict (questionTests (t .parents) question)
+  decides : (question : List ℕ) (further : ℕ) → further ≡ 0 → askedVerdict t work question further ≡ verdict (questionTests (t .parents) 0 question)
   decides question further fits =
       ap (λ (u : Lent). askedVerdict u work question further) (stands .tables)
       ∙ question-decides (t .parents) (stands .accepts) work question further (stands .room) fits
 
   -- a carrier of an accepted question is a part, and the one that the climber finds
-  carrier-is : (question : List ℕ) (c : ℕ) → verdict (questionTests (t .parents) question) ≡ accepted → Lca (t .parents) question c
+  carrier-is : (question : List ℕ) (c : ℕ) → verdict (questionTests (t .parents) 0 question) ≡ accepted → Lca (t .parents) question c
       → (c < limit) × (c ≡ lca (t .parents) question)
   carrier-is question c e l =
-      let (some, inside) = question-accepted (t .parents) question e in (
+      let (some, inside) = question-accepted (t .parents) 0 question e in (
         carrier-small (t .parents) (stands .accepts) question e c l,
         one-carrier (t .parents) (stands .accepts) question some (question-parts (t .parents) question inside) .1 c l,
       )
@@ -62,23 +63,22 @@ module _ {t : Lent} {work : List ℕ} (stands : Stands t work) where
   module _ {x y : ℕ} {cells rows work′ cells′ rows′ : List ℕ} {r : Traced} (g : TrailGives (lending t work (x ∷ y ∷ []) cells) rows r work′ cells′ rows′)
       (one : length cells ≡ 1) (whole : length rows ≡ trailCells) where
     -- its verdict is that of its two numbers
-    pair-decides : tracedOf r .0 ≡ verdict (questionTests (t .parents) (x ∷ y ∷ []))
+    pair-decides : verdictOf (told r) ≡ verdict (questionTests (t .parents) 0 (x ∷ y ∷ []))
     pair-decides =
-        g .outcome
-        ∙ decides (x ∷ y ∷ []) _ (unfit-later _ _ refl ∙ unfit-later _ _ (eq-eqb _ _ one) ∙ unfit-last _ (eq-eqb _ _ whole))
+        g .answered .outcome ∙ decides (x ∷ y ∷ []) _ (trail-fitting 2 (length cells) (length rows) refl one whole)
 
     -- refused
-    pub pair-refused : {why : Refusal} → r ≡ traced.Refused why → given (tracedOf r .0) [] ≡ answer (t .parents) (pair x y)
+    pub pair-refused : {why : Refusal} → r ≡ traced.Refused why → given (verdictOf (told r)) [] ≡ answer (t .parents) (pair x y)
     unfolding answer
-    pair-refused e = given-refused _ (ap (λ (u : Traced). tracedOf u .0) e) pair-decides
+    pair-refused e = given-refused _ (ap (λ (u : Traced). verdictOf (told u)) e) pair-decides
 
     module _ {lifts : ℕ} (e : r ≡ traced.Lifts lifts) where
       -- it is accepted, and its carrier is known
-      traced-yes : tracedOf r .0 ≡ accepted
-      traced-yes = ap (λ (u : Traced). tracedOf u .0) e
+      traced-yes : verdictOf (told r) ≡ accepted
+      traced-yes = ap (λ (u : Traced). verdictOf (told u)) e
 
       pair-carrier : (getD cells′ 0 0 < limit) × (getD cells′ 0 0 ≡ lca (t .parents) (x ∷ y ∷ []))
-      pair-carrier = carrier-is _ _ (sym pair-decides ∙ traced-yes) (g .carrier (sym (g .outcome) ∙ traced-yes))
+      pair-carrier = carrier-is _ _ (sym pair-decides ∙ traced-yes) (g .carrier (sym (g .answered .outcome) ∙ traced-yes))
 
       -- which is small
       pub pair-small : getD cells′ 0 0 < limit
@@ -88,15 +88,15 @@ module _ {t : Lent} {work : List ℕ} (stands : Stands t work) where
       pub pair-answered : pairLine x y (getD cells′ 0 0) lifts ≡ answer (t .parents) (pair x y)
       unfolding answer
       pair-answered =
-          let count : lifts ≡ liftCount (t .parents) x y = ap (λ (u : Traced). tracedOf u .1) (sym e) ∙ g .ones (sym (g .outcome) ∙ traced-yes) in
+          let count : lifts ≡ liftCount (t .parents) x y = ap liftsOf (sym e) ∙ g .ones (sym (g .answered .outcome) ∙ traced-yes) in
           rw (pair-carrier .1, count) (given-accepted _ traced-yes pair-decides)
 
   -- ---- a list
 
   module _ {question cells work′ cells′ : List ℕ} {r : Outcome} (g : ListGives (lending t work question cells) r work′ cells′) (one : length cells ≡ 1) where
     -- its verdict is that of its numbers
-    list-decides : verdictOf r ≡ verdict (questionTests (t .parents) question)
-    list-decides = g .outcome ∙ decides question _ (unfit-last _ (eq-eqb _ _ one))
+    list-decides : verdictOf r ≡ verdict (questionTests (t .parents) 0 question)
+    list-decides = g .answered .outcome ∙ decides question _ (list-fitting (length cells) one)
 
     -- refused
     pub many-refused : {why : Refusal} → r ≡ outcome.Refused why → given (verdictOf r) [] ≡ answer (t .parents) (many question)
@@ -109,7 +109,7 @@ module _ {t : Lent} {work : List ℕ} (stands : Stands t work) where
       list-yes = ap verdictOf e
 
       list-carrier : (getD cells′ 0 0 < limit) × (getD cells′ 0 0 ≡ lca (t .parents) question)
-      list-carrier = carrier-is _ _ (sym list-decides ∙ list-yes) (g .carrier (sym (g .outcome) ∙ list-yes))
+      list-carrier = carrier-is _ _ (sym list-decides ∙ list-yes) (g .carrier (sym (g .answered .outcome) ∙ list-yes))
 
       -- which is small
       pub many-small : getD cells′ 0 0 < limit

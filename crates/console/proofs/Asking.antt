@@ -69,7 +69,7 @@ here-prints {input} {i} s number g h =
 -- ---- the loop
 
 -- the questions from position `at` to position i are answered, the first of which is line `first`; the one at i is line `number`. `out` was `entry`
-pub record Answered (input : List ℕ) (at first : ℕ) (s entry : List ℕ) (put : ℕ) (out : List ℕ) (i number next : ℕ) : Type 0 where
+pub record AnsweredUpto (input : List ℕ) (at first : ℕ) (s entry : List ℕ) (put : ℕ) (out : List ℕ) (i number next : ℕ) : Type 0 where
   pub within : i ≤ length input
   pub numbered : number ≤ first + i
   pub text : List ℕ
@@ -78,11 +78,11 @@ pub record Answered (input : List ℕ) (at first : ℕ) (s entry : List ℕ) (pu
 
 -- before the first
 pub answered-none : (input : List ℕ) (at first : ℕ) (s entry : List ℕ) (put : ℕ) → at ≤ length input → put ≤ length entry
-    → Answered input at first s entry put entry at first put
+    → AnsweredUpto input at first s entry put entry at first put
 answered-none input at first s entry put h r = record { within = h; numbered = omega arith; text = []; puts = puts-none r; is = refl }
 
 module _ {input : List ℕ} {at first : ℕ} {s entry : List ℕ} {put : ℕ} (room : Room entry put (questions s first (lines (drop at input))))
-    {out : List ℕ} {i number next : ℕ} (d : Answered input at first s entry put out i number next) where
+    {out : List ℕ} {i number next : ℕ} (d : AnsweredUpto input at first s entry put out i number next) where
   -- there is room for what is printed from here on
   rest-room : {rest : List ℕ} → questions s number (lines (drop i input)) ≡ rest → Room out next rest
   rest-room e = room-then (d .text) _ (rw (d .is, e) at room) (d .puts)
@@ -117,7 +117,7 @@ module _ {input : List ℕ} {at first : ℕ} {s entry : List ℕ} {put : ℕ} (r
 
       -- and it is answered
       pub question-answered : {out′ : List ℕ} {next′ : ℕ} → Puts out next (answer s (queryOf beside q)) out′ next′
-          → Answered input at first s entry put out′ end (number + 1) next′
+          → AnsweredUpto input at first s entry put out′ end (number + 1) next′
       question-answered p =
           let own = answer s (queryOf beside q) in
           let whole : questions s first (lines (drop at input)) ≡ (d .text ++ own) ++ questions s (suc number) (lines (drop end input)) =
@@ -141,5 +141,6 @@ module _ {input : List ℕ} {at first : ℕ} {s entry : List ℕ} {put : ℕ} (r
       illegible-room = rest-room broken
 
       -- with which all is printed
-      pub illegible-last : {out′ : List ℕ} {next′ : ℕ} → Puts out next (illegible number) out′ next′ → Puts entry put (questions s first (lines (drop at input))) out′ next′
+      pub illegible-last : {out′ : List ℕ} {next′ : ℕ} → Puts out next (illegible number) out′ next′
+          → Puts entry put (questions s first (lines (drop at input))) out′ next′
       illegible-last p = rest-last broken p

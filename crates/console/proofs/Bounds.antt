@@ -16,9 +16,10 @@ use Rattle.text.specs.Bytes.{bytes, lf}
 use Rattle.text.specs.Lines.{Lines, tail, line, before, lines}
 use Rattle.text.proofs.Numerals.{one-reading}
 use Rattle.console.specs.Forms.{Query, Form, machine, part, asked, text}
-use Rattle.console.specs.Read.{read, next, count, entry, query, nextAs}
+use Rattle.console.specs.Read.{read, next, machineCount, entry, query, nextAs}
 use Rattle.console.specs.Print.{machineLine}
-use Rattle.console.specs.Run.{most, illegible, answer, leftover, questions, Sheet, sheet, broken, first, partLine, parts, sheetRun, machineRun, run, mostBytes, output}
+use Rattle.console.specs.Run.{most, illegible, answer, leftover, questions}
+use Rattle.console.specs.Run.{Sheet, sheet, broken, first, partLine, parts, sheetRun, machineRun, run, mostBytes, output}
 use Rattle.console.specs.Whole.{room}
 use Rattle.console.proofs.Legible.{first-read, read-exactly}
 use Rattle.console.proofs.Lengths.{Short, refusal-length, given-length, count-shorts, sheet-shorts, answer-length}
@@ -90,7 +91,8 @@ question-length s a b q e =
     rw is (answer-length s a q legal)
 
 -- the answers to all questions, and the last refusal. A line's number grows by one with each line, which has at least its LF
-questions-length : (s : List ℕ) → Accepted s → (number : ℕ) (ls : Lines) → Short (number + byteCount ls) → length (questions s number ls) ≤ 4 * byteCount ls + 27
+questions-length : (s : List ℕ) → Accepted s → (number : ℕ) (ls : Lines) → Short (number + byteCount ls)
+    → length (questions s number ls) ≤ 4 * byteCount ls + 27
 unfolding questions Option·elim byteCount
 questions-length s a number (tail b) h = let last = leftover-length number b (omega arith) in omega arith
 questions-length s a number (line b rest) h = by-question (bind (read b) query) refl (questions-length s a (suc number) rest (omega arith))
@@ -137,8 +139,8 @@ sheet-length n ls (broken number) h k b = let last = illegible-length number (om
 -- ---- the machine
 
 -- a form that is taken as a machine line is one
-count-is : (f : Form) (n : ℕ) → count f ≡ some n → f ≡ machine n
-unfolding count
+count-is : (f : Form) (n : ℕ) → machineCount f ≡ some n → f ≡ machine n
+unfolding machineCount
 count-is (machine m) n e = ap machine (Option·some-inj .0 e)
 count-is (part v p) n e = absurd (Option·none-ne-some n e)
 count-is (asked q) n e = absurd (Option·none-ne-some n e)
@@ -163,12 +165,13 @@ machine-length n ls h =
 -- what is printed of all lines
 run-length : (ls : Lines) → byteCount ls ≤ mostBytes → length (run ls) ≤ 4 * byteCount ls + 64
 unfolding run Option·elim
-run-length ls h = by-line (nextAs count ls) refl
+run-length ls h = by-line (nextAs machineCount ls) refl
   where
-    by-line : (o : Option (ℕ × Lines)) → nextAs count ls ≡ o → length (Option·elim o (illegible 1) (λ found. machineRun (found .0) (found .1))) ≤ 4 * byteCount ls + 64
+    by-line : (o : Option (ℕ × Lines)) → nextAs machineCount ls ≡ o
+        → length (Option·elim o (illegible 1) (λ found. machineRun (found .0) (found .1))) ≤ 4 * byteCount ls + 64
     by-line none e = let last = illegible-length 1 (omega arith) in omega arith
     by-line (some (n, rest)) e =
-        let line-was = took count ls n rest e in
+        let line-was = took machineCount ls n rest e in
         let bytes-are = rw (count-is _ n (line-was .is)) at (line-was .bytes-are) in
         let repeated = machine-line-length n in
         let after = machine-length n rest (omega arith) in

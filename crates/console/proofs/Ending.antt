@@ -36,7 +36,8 @@ run-short {input} {out} {n} e h =
     record { outcome = sym no-room; count = rw no-room e; buffer = rw no-room refl; bound = output-bound input }
 
 -- one that is not has the text at its start
-pub run-text : {input out out′ : List ℕ} {n r : ℕ} → n ≡ room (length input) → n ≤ length out → Puts out 0 (output input) out′ r → RunGives input out (Text r) out′
+pub run-text : {input out out′ : List ℕ} {n r : ℕ} → n ≡ room (length input) → n ≤ length out → Puts out 0 (output input) out′ r
+    → RunGives input out (Text r) out′
 run-text {input} {out} {out′} {n} {r} e h p =
     let roomy = le-leb (room (length input)) (length out) (rw e at h) in
     let long : r ≡ length (output input) = omega (arith, p .place) in

@@ -45,7 +45,8 @@ pub entered-none : (input : List ℕ) (at : ℕ) (s : List ℕ) → at ≤ lengt
 entered-none input at s h = record { within = h; some-of = omega arith; is = rw sub-zero (firsts-none _) }
 
 -- the next line is looked at
-parts-next : (k v : ℕ) (ls : Lines) → v < k → parts (k - v) v ls ≡ Option·elim (nextAs (entry v) ls) (broken (partLine v)) λ found. first (found .0) (parts (k - suc v) (suc v) (found .1))
+parts-next : (k v : ℕ) (ls : Lines) → v < k
+    → parts (k - v) v ls ≡ Option·elim (nextAs (entry v) ls) (broken (partLine v)) λ found. first (found .0) (parts (k - suc v) (suc v) (found .1))
 unfolding parts
 parts-next k v ls h = let one : k - v ≡ suc (k - suc v) = omega arith in rw one refl
 
@@ -78,16 +79,18 @@ module _ {input : List ℕ} {at : ℕ} {s : List ℕ} {i v : ℕ} (f : Entered i
         let found : some (p, lines (drop end input)) ≡ nextAs (entry v) (lines (drop i input)) = rw e at (g .is) in
         let long : length (set s v p) ≡ length s = length-set s v p in
         let rest = parts (length s - suc v) (suc v) (lines (drop end input)) in
+        let next = parts-next (length s) v (lines (drop i input)) h in
         record {
           within = g .within p end e;
           some-of = omega arith;
-          is = rw (long, add-one, take-suc-set s v p h) (f .is ∙ rw (parts-next (length s) v (lines (drop i input)) h, sym found) (firsts-more (take v s) p rest));
+          is = rw (long, add-one, take-suc-set s v p h) (f .is ∙ rw (next, sym found) (firsts-more (take v s) p rest));
         }
 
 -- ---- the sheet that was read
 
 -- it is that of the lines, for buffers of the same length
-pub sheet-read : {input : List ℕ} {at n : ℕ} {s : List ℕ} {r r′ : Entries} → EntriesGive input at s r → r ≡ r′ → length s ≡ n → sheetOf input s r′ ≡ parts n 0 (lines (drop at input))
+pub sheet-read : {input : List ℕ} {at n : ℕ} {s : List ℕ} {r r′ : Entries} → EntriesGive input at s r → r ≡ r′ → length s ≡ n
+    → sheetOf input s r′ ≡ parts n 0 (lines (drop at input))
 sheet-read {input} {at} {n} {s} g e long = rw e at (g .is) ∙ ap (λ (k : ℕ). parts k 0 (lines (drop at input))) long
 
 -- it goes with the same tables and work

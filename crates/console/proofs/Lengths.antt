@@ -4,16 +4,15 @@ use Prim.Native.Nat.{ℕ, suc, _-_, _*_, _≤_, _<_}
 use native.Mathlib.Nat.{le-trans}
 use native.Mathlib.Omega.{arith}
 use mathlib.Core.Path.{_≡_, refl}
-use mathlib.Core.Bool.{not}
 use mathlib.Core.List.{List, [], _∷_}
 use borrow.Table.Steps.{cases}
-use lib.Dec.{leb}
-use lib.ListN.{length, getD, length-append}
+use lib.ListN.{length, length-append}
 use Rattle.tree.specs.Lca.{lca}
-use Rattle.tree.specs.Tree.{parent, climb, isRoot, nextRoot, rootOf}
+use Rattle.tree.specs.Tree.{isRoot, nextRoot, rootOf}
 use Rattle.tree.specs.Trail.{liftCount}
 use Rattle.tree.specs.Verdict.{accepted}
-use Rattle.tree.specs.Tests.{Test, testNumber, testPlace, verdict, empty, tooLarge, wrongLength, parentOutOfRange, noRoot, secondRoot, cycle, nothingListed, nodeOutOfRange, noCommonAncestor, sheetTests, questionTests, Accepted}
+use Rattle.tree.specs.Tests.{Test, testNumber, testPlace, verdict, sheetTests, questionTests, Accepted, outside, lost, offSheet}
+use Rattle.tree.specs.Tests.{empty, tooLarge, wrongLength, parentOutOfRange, noRoot, secondRoot, cycle, nothingListed, nodeOutOfRange, noCommonAncestor}
 use Rattle.tree.proofs.Scans.{least-le, least-from}
 use Rattle.tree.proofs.Roots.{root-of}
 use Rattle.tree.proofs.Lcas.{lca-found}
@@ -67,16 +66,16 @@ count-shorts n = omega arith
 pub sheet-shorts : (s : List ℕ) → length s ≤ most → Shorts (sheetTests s 0)
 unfolding empty tooLarge wrongLength parentOutOfRange noRoot secondRoot cycle nextRoot
 sheet-shorts s h =
-    let outside = least-le (λ v. leb (length s) (parent s v)) (length s) in
+    let off = least-le (outside s) (length s) in
     let root = root-of s .to in
     let second = least-from (isRoot s) (suc (rootOf s)) (length s - suc (rootOf s)) .to in
-    let loop = least-le (λ v. not (isRoot s (climb s (length s) v))) (length s) in
+    let loop = least-le (lost s) (length s) in
     omega arith
 
 -- of a question: each place is one of its positions, or its length
-question-shorts : (s question : List ℕ) → length question ≤ mostListed → Shorts (questionTests s question)
+question-shorts : (s question : List ℕ) → length question ≤ mostListed → Shorts (questionTests s 0 question)
 unfolding nothingListed nodeOutOfRange noCommonAncestor
-question-shorts s question h = let outside = least-le (λ i. leb (length s) (getD question i 0)) (length question) in omega arith
+question-shorts s question h = let off = least-le (offSheet s question) (length question) in omega arith
 
 -- ---- answers
 
@@ -107,17 +106,17 @@ many-fits xs carrier h = let digits = five-digits carrier h in simp length-appen
 
 module _ (s : List ℕ) (a : Accepted s) where
   -- the carrier of a question that is accepted is a part
-  carrier-short : (question : List ℕ) → verdict (questionTests s question) ≡ accepted → Short (lca s question)
+  carrier-short : (question : List ℕ) → verdict (questionTests s 0 question) ≡ accepted → Short (lca s question)
   carrier-short question e =
       let (t, _) = accepted-tree s a in
-      let (one, inside) = question-accepted s question e in
+      let (one, inside) = question-accepted s 0 question e in
       let below = carrier-small s a question e _ (lca-found t question one (question-parts s question inside)) in
       omega arith
 
   -- a pair has at most 32 lifts
-  lifts-short : (x y : ℕ) → verdict (questionTests s (x ∷ y ∷ [])) ≡ accepted → Short (liftCount s x y)
+  lifts-short : (x y : ℕ) → verdict (questionTests s 0 (x ∷ y ∷ [])) ≡ accepted → Short (liftCount s x y)
   lifts-short x y e =
-      let (_, inside) = question-accepted s (x ∷ y ∷ []) e in
+      let (_, inside) = question-accepted s 0 (x ∷ y ∷ []) e in
       let rows = trail-rows s a x y (inside 0 (omega arith)) (inside 1 (omega arith)) in
       let few = trail-fits s (accepted-tree s a .1) x y in
       omega arith
@@ -126,8 +125,8 @@ module _ (s : List ℕ) (a : Accepted s) where
   pub answer-length : (q : Query) → Legal (asked q) → length (answer s q) ≤ 4 * suc (length (text (asked q)))
   unfolding answer
   answer-length (pair x y) h =
-      given-length (questionTests s (x ∷ y ∷ [])) _ (worth (pair x y)) (question-shorts s (x ∷ y ∷ []) (omega arith)) (refusal-fits (pair x y))
+      given-length (questionTests s 0 (x ∷ y ∷ [])) _ (worth (pair x y)) (question-shorts s (x ∷ y ∷ []) (omega arith)) (refusal-fits (pair x y))
       (λ e. pair-fits x y _ _ (carrier-short (x ∷ y ∷ []) e) (lifts-short x y e))
   answer-length (many xs) h =
-      given-length (questionTests s xs) _ (worth (many xs)) (question-shorts s xs (h .0)) (refusal-fits (many xs))
+      given-length (questionTests s 0 xs) _ (worth (many xs)) (question-shorts s xs (h .0)) (refusal-fits (many xs))
       (λ e. many-fits xs _ (carrier-short xs e))

@@ -91,8 +91,10 @@ module _ {line : List ℕ} {at most : ℕ} {beside : List ℕ} {i count : ℕ} (
       pub listing-more : {x end : ℕ} → FindsNumber line (number (drop start line)) (number-is.Value x end) → count < length beside
           → Listing line at most (set beside count x) end (count + 1)
       unfolding listed Option·elim bind
-      listing-more {x} {end} f r = record {
-        few = omega arith;
-        within = f .within;
-        is = rw (add-one, take-suc-set beside count x r) (l .is ∙ rw (left, sym (s .is), sym (f .is)) (behind-more (take count beside) x (listed (most - suc count) (drop end line))));
-      }
+      listing-more {x} {end} f r =
+          let rest = listed (most - suc count) (drop end line) in
+          record {
+            few = omega arith;
+            within = f .within;
+            is = rw (add-one, take-suc-set beside count x r) (l .is ∙ rw (left, sym (s .is), sym (f .is)) (behind-more (take count beside) x rest));
+          }

@@ -38,7 +38,8 @@ module _ {input : List ℕ} {at : ℕ} {beside : List ℕ} {end : ℕ} (e : Line
   }
 
   -- an LF does
-  pub takes-line : {r : Reading} → end ≢ length input → ReadGives (read (take (end - at) (drop at input))) beside r → NextGives input at beside (record { line = r; end = end + 1 })
+  pub takes-line : {r : Reading} → end ≢ length input → ReadGives (read (take (end - at) (drop at input))) beside r
+      → NextGives input at beside (record { line = r; end = end + 1 })
   unfolding next
   takes-line {r} h g = record {
     is = rw (by-reading input beside (end + 1) r, by-lf e h, g .is, add-one) refl;

@@ -31,7 +31,8 @@ list-more : (xs : List ℕ) (i : ℕ) → i < length xs → listText (take (i + 
 unfolding listText
 list-more xs i h = rw (add-one, take-suc xs i 0 h, list-append, append-nil)
 
-module _ (xs : List ℕ) (i : ℕ) {l m : List ℕ} {at end : ℕ} (room : Room l at (listText xs)) (more : i < length xs) (p : Puts l at (listText (take i xs)) m end) where
+module _ (xs : List ℕ) (i : ℕ) {l m : List ℕ} {at end : ℕ} (room : Room l at (listText xs)) (more : i < length xs)
+    (p : Puts l at (listText (take i xs)) m end) where
   split : Room l at (listText (take i xs) ++ (spaced (getD xs i 0) ++ listText (drop (i + 1) xs)))
   split = rw (list-split xs i more) at room
 
@@ -42,4 +43,5 @@ module _ (xs : List ℕ) (i : ℕ) {l m : List ℕ} {at end : ℕ} (room : Room 
   -- and with it one more is written
   pub list-next : {a : List ℕ} {k : ℕ} → Puts m end (spaced (getD xs i 0)) a k → Puts l at (listText (take (i + 1) xs)) a k
   list-next q =
-      rw (list-more xs i more) (puts-then _ _ (room-first _ (listText (take i xs) ++ spaced (getD xs i 0)) (listText (drop (i + 1) xs)) (rw (← append-assoc) at split)) p q)
+      let both = room-first _ (listText (take i xs) ++ spaced (getD xs i 0)) (listText (drop (i + 1) xs)) (rw (← append-assoc) at split) in
+      rw (list-more xs i more) (puts-then _ _ both p q)

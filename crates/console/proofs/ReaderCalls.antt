@@ -1,4 +1,5 @@
--- How a walk by hand calls the reader's functions: what each is passed, that a caller has what it asks, and what it says of its result. A `Reader` in a local's cell, and a `Next` that is made of a reading and a number.
+-- How a walk by hand calls the reader's functions: what each is passed, that a caller has what it asks, and what it says of its result. A `Reader` in
+-- a local's cell, and a `Next` that is made of a reading and a number.
 --     MakeReader, TakeNext, TellPosition      the contracts of `new`, `next` and `position`
 --     goes-new, goes-next, goes-position      what the caller has gives what is asked
 --     new-said, position-said                 of what is ensured, the fact alone: neither has a last value
@@ -42,7 +43,6 @@ use denote.Triple.Walked.{says}
 use Rattle.console.specs.Forms.{mostListed}
 use Rattle.console.specs.Gives.{NextGives}
 use Rattle.console.specs.declared.form.Reading.{Reading}
-use Rattle.console.specs.declared.reader.Next.{Next}
 use Rattle.console.specs.declared.reader.Reader.{Reader}
 use Rattle.console.proofs.form.Reading as R
 use Rattle.console.proofs.form.Reading.Laws as R′
@@ -54,8 +54,10 @@ use Rattle.console.proofs.reader.Reader.new as new
 use Rattle.console.proofs.reader.Reader.next as next
 use Rattle.console.proofs.reader.Reader.position as position
 
-pub is-next : (t : Reading) (p : ℕ) (u : Val) → Is R.the-row t (u ∷ []) → p < 2 ^ 64 → Is S.the-row (record { line = t; end = p }) (LL.vals S.the-type S′.the-laws (record { line = t; end = p }))
-is-next t p u is fits = LL.owes S.the-type S′.the-laws (record { line = t; end = p }) (subst (Is R.the-row t) (EL.tells R.the-type R′.the-laws t _ is) is, ((refl, fits), tt))
+pub is-next : (t : Reading) (p : ℕ) (u : Val) → Is R.the-row t (u ∷ []) → p < 2 ^ 64
+    → Is S.the-row (record { line = t; end = p }) (LL.vals S.the-type S′.the-laws (record { line = t; end = p }))
+is-next t p u is fits =
+    LL.owes S.the-type S′.the-laws (record { line = t; end = p }) (subst (Is R.the-row t) (EL.tells R.the-type R′.the-laws t _ is) is, ((refl, fits), tt))
 
 module _ {M : Type 1} (𝓤 : URA M) (H : Heap 𝓤) (A : Atoms 𝓤) (mem : Memory → SProp 𝓤) (run : Routine → Fun 𝓤) where
   abbrev pub MakeReader : Contract 𝓤
@@ -82,11 +84,13 @@ module _ {M : Type 1} (𝓤 : URA M) (H : Heap 𝓤) (A : Atoms 𝓤) (W : Given
       use1 W (‵ (cellAt fullShare (B κ .mir) (u ∷ []) l 0)) (W .laws .at-raw fullShare (T′.mir erased) l 0 u) $ fjoin ! $
       fpack ! (List Val) (λ vs. fsep (cellAt fullShare (B κ .mir) vs l 0) (B κ .own d vs)) (u ∷ []) $ done !
 
-  pub lies-out : ent 𝓤 (sem 𝓤 H A (mem (B κ) .lies d l 0)) (⋆ 𝓤 H A (‵ (fat fullShare (T′.mir erased) l 0 (T′.lowered d)) ∷ ‵ (B κ .own d (T′.lowered d ∷ [])) ∷ []))
+  pub lies-out : ent 𝓤 (sem 𝓤 H A (mem (B κ) .lies d l 0))
+      (⋆ 𝓤 H A (‵ (fat fullShare (T′.mir erased) l 0 (T′.lowered d)) ∷ ‵ (B κ .own d (T′.lowered d ∷ [])) ∷ []))
   unfolding partOf
   lies-out =
       qed W (‵ (mem (B κ) .lies d l 0) ∷ []) ∵ fpick ! (λ vs. fsplit ! $
-      spelt ! (B κ) (Is (B κ)) (shows 𝓤 H A (B κ)) (LL.vals (T.the-type (α κ)) (T′.the-laws (α κ))) (LL.tells (T.the-type (α κ)) (T′.the-laws (α κ))) fullShare d vs l 0 $
+      spelt ! (B κ) (Is (B κ)) (shows 𝓤 H A (B κ)) (LL.vals (T.the-type (α κ)) (T′.the-laws (α κ)))
+      (LL.tells (T.the-type (α κ)) (T′.the-laws (α κ))) fullShare d vs l 0 $
       use1 W (‵ (fat fullShare (T′.mir erased) l 0 (T′.lowered d))) (W .laws .raw-at fullShare (T′.mir erased) l 0 (T′.lowered d)) $ done !)
 
 module _ {M : Type 1} (𝓤 : URA M) (H : Heap 𝓤) (A : Atoms 𝓤) (W : Given 𝓤 H A) (at-mem : Memory → SProp 𝓤) (run : Routine → Fun 𝓤) (κ : Lft) (q : Share) where
@@ -112,7 +116,8 @@ module _ {M : Type 1} (𝓤 : URA M) (H : Heap 𝓤) (A : Atoms 𝓤) (W : Given
 
     pub goes-new : n < 2 ^ 64 → ent 𝓤 (⋆ 𝓤 H A (‵ (ShrSlice (named 0) κ u8 .own s (v ∷ [])) ∷ Token ∷ [])) NewAsks
     goes-new fits =
-        qed W (‵ (ShrSlice (named 0) κ u8 .own s (v ∷ [])) ∷ Token ∷ []) ∵ nothing ! $ owned ! usize (Is usize) (uint-makes 𝓤 H A W w64) n _ (refl, fits) $ fjoin ! $ move ! (1 ∷ 0 ∷ []) $ fjoin ! $
+        qed W (‵ (ShrSlice (named 0) κ u8 .own s (v ∷ [])) ∷ Token ∷ []) ∵ nothing ! $ owned ! usize (Is usize) (uint-makes 𝓤 H A W w64) n _ (refl, fits) $
+        fjoin ! $ move ! (1 ∷ 0 ∷ []) $ fjoin ! $
         move ! (1 ∷ 0 ∷ []) $ join ! $ frame ! $ done !
 
     pub new-said : (r : Reader) → ent 𝓤 (NewEnsures r) (fact 𝓤 (IsMade r))
@@ -130,7 +135,8 @@ module _ {M : Type 1} (𝓤 : URA M) (H : Heap 𝓤) (A : Atoms 𝓤) (W : Given
     PositionEnsures = ensured 𝓤 H A position.ended (position.clauses 𝓤 H A at-mem run) (κ, tt) (d, tt) tt
 
     pub goes-position : ent 𝓤 (⋆ 𝓤 H A (‵ (B κ .own d (T′.lowered d ∷ [])) ∷ Token ∷ [])) PositionAsks
-    goes-position = qed W (‵ (B κ .own d (T′.lowered d ∷ [])) ∷ Token ∷ []) ∵ nothing ! $ move ! (1 ∷ 0 ∷ []) $ fjoin ! $ move ! (1 ∷ 0 ∷ []) $ join ! $ frame ! $ done !
+    goes-position =
+        qed W (‵ (B κ .own d (T′.lowered d ∷ [])) ∷ Token ∷ []) ∵ nothing ! $ move ! (1 ∷ 0 ∷ []) $ fjoin ! $ move ! (1 ∷ 0 ∷ []) $ join ! $ frame ! $ done !
 
     pub position-said : (p : ℕ) → ent 𝓤 (PositionEnsures p) (fact 𝓤 (p ≡ d .at))
     position-said p = exE 𝓤 _ (λ ws. snd∗ 𝓤 (sem 𝓤 H A (lasts position.ended (κ, tt) (d, tt) ws)) (fact 𝓤 (p ≡ d .at)))
@@ -158,7 +164,9 @@ module _ {M : Type 1} (𝓤 : URA M) (H : Heap 𝓤) (A : Atoms 𝓤) (W : Given
   NextSays d zs t = (d .input ≡ x .now .input) × NextGives (now (x .now .input)) (x .now .at) zs (record { line = t; end = d .at })
 
   pub goes-next : (x .now .at ≤ length (now (x .now .input))) × (mostListed ≤ length (y .now))
-      → ent 𝓤 (⋆ 𝓤 H A (‵ (MutRef (named 0) κ (B κ′) .own x (vptr (x .ptr .0) (x .ptr .1) ∷ [])) ∷ ‵ (MutSlice (named 1) κ″ u16 .own y (w ∷ [])) ∷ (‵ (flft κ q) ⊛ ‵ (flft κ′ q′) ⊛ ‵ (flft κ″ q″) ⊛ ‵ ftrue) ∷ [])) NextAsks
+      → ent 𝓤 (⋆ 𝓤 H A (‵ (MutRef (named 0) κ (B κ′) .own x (vptr (x .ptr .0) (x .ptr .1) ∷ [])) ∷ ‵ (MutSlice (named 1) κ″ u16 .own y (w ∷ [])) ∷
+      (‵ (flft κ q) ⊛ ‵ (flft κ′ q′) ⊛ ‵ (flft κ″ q″) ⊛ ‵ ftrue) ∷ [])) NextAsks
   goes-next g =
-      qed W (‵ (MutRef (named 0) κ (B κ′) .own x (vptr (x .ptr .0) (x .ptr .1) ∷ [])) ∷ ‵ (MutSlice (named 1) κ″ u16 .own y (w ∷ [])) ∷ (‵ (flft κ q) ⊛ ‵ (flft κ′ q′) ⊛ ‵ (flft κ″ q″) ⊛ ‵ ftrue) ∷ []) ∵
+      qed W (‵ (MutRef (named 0) κ (B κ′) .own x (vptr (x .ptr .0) (x .ptr .1) ∷ [])) ∷ ‵ (MutSlice (named 1) κ″ u16 .own y (w ∷ [])) ∷
+      (‵ (flft κ q) ⊛ ‵ (flft κ′ q′) ⊛ ‵ (flft κ″ q″) ⊛ ‵ ftrue) ∷ []) ∵
       nothing ! $ move ! (2 ∷ 0 ∷ []) $ fjoin ! $ move ! (1 ∷ 0 ∷ []) $ fjoin ! $ move ! (1 ∷ 0 ∷ []) $ says ! g $ frame ! $ done !

@@ -66,7 +66,8 @@ module _ (line : List ℕ) {beside : List ℕ} where
   reads-long h = reads-nothing (rw (lt-leb _ _ h))
 
   -- another line is tried as each form
-  pub reads-short : {r : Reading} → length line ≤ longest → ReadGives (either (machineForm line) (either (partForm line) (either (pairForm line) (manyForm line)))) beside r
+  pub reads-short : {r : Reading} → length line ≤ longest
+      → ReadGives (either (machineForm line) (either (partForm line) (either (pairForm line) (manyForm line)))) beside r
       → ReadGives (read line) beside r
   unfolding read
   reads-short h g = rw (le-leb _ _ h) g

@@ -10,7 +10,7 @@ use lib.ListN.{drop}
 use Rattle.tree.specs.declared.Refusal.the-variants.{MalformedLine}
 use Rattle.text.specs.Lines.{Lines, lines}
 use Rattle.console.specs.Forms.{Form}
-use Rattle.console.specs.Read.{next, count, entry, query, nextAs}
+use Rattle.console.specs.Read.{next, machineCount, entry, query, nextAs}
 use Rattle.console.specs.Run.{run}
 use Rattle.console.specs.Gives.{formOf, nextOf, Further, NextGives, AdmitGives, StartGives, EntryGives, AsksGive}
 use Rattle.console.specs.declared.form.Question.{Question}
@@ -38,10 +38,14 @@ next-taken take ls = refl
 module _ {A : Type 0} (take : Form → Option A) {input : List ℕ} {at : ℕ} {beside : List ℕ} {r : Next} (g : NextGives input at beside r) where
   -- what was read decides
   by-reading : {read : Reading} → r .line ≡ read → takenAs take (nextOf input beside (r .end) read) ≡ nextAs take (lines (drop at input))
-  by-reading e = ap (λ (x : Reading). takenAs take (nextOf input beside (r .end) x)) (sym e) ∙ ap (takenAs take) (g .is) ∙ sym (next-taken take (lines (drop at input)))
+  by-reading e =
+      ap (λ (x : Reading). takenAs take (nextOf input beside (r .end) x)) (sym e)
+      ∙ ap (takenAs take) (g .is)
+      ∙ sym (next-taken take (lines (drop at input)))
 
   -- a line was read that the place takes
-  takes : {l : Line} {a : A} → r .line ≡ Legible l → take (formOf beside l) ≡ some a → some (a, lines (drop (r .end) input)) ≡ nextAs take (lines (drop at input))
+  takes : {l : Line} {a : A} → r .line ≡ Legible l → take (formOf beside l) ≡ some a
+      → some (a, lines (drop (r .end) input)) ≡ nextAs take (lines (drop at input))
   unfolding takenAs bind
   takes e t = rw t at (by-reading e)
 
@@ -58,26 +62,26 @@ module _ {A : Type 0} (take : Form → Option A) {input : List ℕ} {at : ℕ} {
 -- ---- the machine line
 
 -- there is none
-no-start : {input : List ℕ} → none ≡ nextAs count (lines input) → StartGives input (start.Refused (MalformedLine 1))
+no-start : {input : List ℕ} → none ≡ nextAs machineCount (lines input) → StartGives input (start.Refused (MalformedLine 1))
 unfolding run Option·elim
 no-start e = record { is = rw (sym e) refl; within = λ n end q. let z : _≡_ {A = ℕ} 0 1 = cc in absurd (omega arith) }
 
 module _ {input beside : List ℕ} {r : Next} (g : NextGives input 0 beside r) where
   -- no line was read
   pub start-unread : r .line ≡ Illegible → StartGives input (start.Refused (MalformedLine 1))
-  start-unread e = no-start (takes-none count g e)
+  start-unread e = no-start (takes-none machineCount g e)
 
   -- a line was read that is no machine's
-  pub start-other : {l k : Line} → r .line ≡ Legible l → l ≡ k → count (formOf beside k) ≡ none → StartGives input (start.Refused (MalformedLine 1))
-  start-other e same t = no-start (takes-other count g e (rw same t))
+  pub start-other : {l k : Line} → r .line ≡ Legible l → l ≡ k → machineCount (formOf beside k) ≡ none → StartGives input (start.Refused (MalformedLine 1))
+  start-other e same t = no-start (takes-other machineCount g e (rw same t))
 
   -- a machine's was, whose count is tested
   pub start-machine : {l : Line} {n : ℕ} {s : Start} → r .line ≡ Legible l → l ≡ Machine n → AdmitGives n (r .end) s → StartGives input s
-  unfolding count run Option·elim
+  unfolding machineCount run Option·elim
   start-machine {l} {n} e k a =
-      let t : count (formOf beside l) ≡ some n = rw k refl in
+      let t : machineCount (formOf beside l) ≡ some n = rw k refl in
       record {
-        is = a .is input ∙ rw (sym (takes count g e t)) refl;
+        is = a .is input ∙ rw (sym (takes machineCount g e t)) refl;
         within = λ m d q. let (some-parts, few, there) = a .within m d q in (some-parts, few, omega arith);
       }
 

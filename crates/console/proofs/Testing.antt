@@ -12,10 +12,11 @@ use Rattle.tree.specs.Verdict.{accepted, verdictOf}
 use Rattle.tree.specs.Tests.{verdict, sheetTests}
 use Rattle.tree.specs.Buffers.{labelCells, tourCells, liftCells, workCells}
 use Rattle.tree.specs.Tables.{Lent}
-use Rattle.tree.proofs.Answers.{work-accepted}
-use Rattle.tree.proofs.Fits.{unfit-later, unfit-further}
-use Rattle.tables.specs.Lend.{unfitOf, BuildGives}
-use Rattle.tables.proofs.Claims.{build-fills}
+use Rattle.tree.specs.Lending.{unfitOf}
+use Rattle.tree.proofs.Answers.{filled-own}
+use Rattle.tree.proofs.Fits.{fitting-none}
+use Rattle.tree.proofs.Stages.{stage-yes, stage-clear}
+use Rattle.tables.specs.Lend.{BuildGives}
 use Rattle.text.specs.Lines.{Lines}
 use Rattle.console.specs.Print.{given}
 use Rattle.console.specs.Run.{most, partLine, questions, sheet, sheetRun}
@@ -23,8 +24,8 @@ use Rattle.console.specs.Gives.{Stands, Sized}
 use Rattle.console.proofs.Answering.{given-refused, given-accepted}
 
 -- tables and work of n parts have their lengths
-pub sized-of : {t : Lent} {work : List ℕ} (n : ℕ) → 0 < n → n ≤ most → n ≡ length (t .parents) → labelCells n ≡ length (t .label) → tourCells n ≡ length (t .tour)
-    → liftCells n ≡ length (t .lift) → workCells n ≡ length work → Sized t work
+pub sized-of : {t : Lent} {work : List ℕ} (n : ℕ) → 0 < n → n ≤ most → n ≡ length (t .parents) → labelCells n ≡ length (t .label)
+    → tourCells n ≡ length (t .tour) → liftCells n ≡ length (t .lift) → workCells n ≡ length work → Sized t work
 sized-of n some small long label tour lift room = record {
   some = rw (← long) some;
   small = rw (← long) small;
@@ -37,13 +38,11 @@ sized-of n some small long label tour lift room = record {
 module _ {t : Lent} {work label′ tour′ lift′ work′ : List ℕ} {r : Outcome} (sized : Sized t work) (g : BuildGives t work r label′ tour′ lift′ work′) where
   -- no buffer does not fit
   fits : unfitOf t work 0 ≡ 0
-  fits =
-      unfit-later _ _ (eq-eqb _ _ (sized .label-cells)) ∙ unfit-later _ _ (eq-eqb _ _ (sized .tour-cells)) ∙ unfit-later _ _ (eq-eqb _ _ (sized .lift-cells))
-      ∙ unfit-later _ _ (eq-eqb _ _ (sized .room)) ∙ unfit-further 0
+  fits = fitting-none _ (eq-eqb _ _ (sized .label-cells), (eq-eqb _ _ (sized .tour-cells), (eq-eqb _ _ (sized .lift-cells), (eq-eqb _ _ (sized .room), tt))))
 
   -- so that the sheet alone decides
   sheet-decides : verdictOf r ≡ verdict (sheetTests (t .parents) 0)
-  sheet-decides = g .outcome ∙ ap (λ (buffer : ℕ). verdict (sheetTests (t .parents) buffer)) fits
+  sheet-decides = g .answered .outcome ∙ ap (λ (buffer : ℕ). verdict (sheetTests (t .parents) buffer)) fits
 
   -- a refused sheet's line is all that is printed
   pub sheet-refused : {why : Refusal} (rest : Lines) → r ≡ Refused why → given (verdictOf r) [] ≡ sheetRun (sheet (t .parents) rest)
@@ -60,9 +59,9 @@ module _ {t : Lent} {work label′ tour′ lift′ work′ : List ℕ} {r : Outc
     pub sheet-stands : Stands (record { parents = t .parents; label = label′; tour = tour′; lift = lift′ }) work′
     sheet-stands =
         let yes : verdictOf r ≡ accepted = ap verdictOf e in
-        let (label, tour, lift) = build-fills g e in
+        let accepts = stage-yes (g .answered) e in
         record {
           accepts = sym sheet-decides ∙ yes;
-          tables = rw (label, tour, lift) refl;
-          room = ap length (g .work ∙ work-accepted _ work (sym (g .outcome) ∙ yes)) ∙ length-replicate _ _ ∙ sized .room;
+          tables = rw (g .label ∙ sym (filled-own _ _ _ accepts), g .tour ∙ sym (filled-own _ _ _ accepts), g .lift ∙ sym (filled-own _ _ _ accepts)) refl;
+          room = ap length (stage-clear (g .answered) e) ∙ length-replicate _ _ ∙ sized .room;
         }

@@ -70,10 +70,10 @@ next (line b rest) = do
 -- ---- what a place takes: "a line of another kind than its place takes" is illegible
 
 -- the machine line's count
-unfoldable pub count : Form → Option ℕ
-count (machine n) = some n
-count (part v p) = none
-count (asked q) = none
+unfoldable pub machineCount : Form → Option ℕ
+machineCount (machine n) = some n
+machineCount (part v p) = none
+machineCount (asked q) = none
 
 -- the entry of part v; "a part line out of order" is illegible
 unfoldable pub entry : ℕ → Form → Option ℕ

@@ -12,7 +12,7 @@ use Rattle.tree.specs.Lca.{lca}
 use Rattle.tree.specs.Trail.{liftCount}
 use Rattle.text.specs.Lines.{Lines, tail, line, lines}
 use Rattle.console.specs.Forms.{Query, pair, many}
-use Rattle.console.specs.Read.{read, count, entry, query, nextAs}
+use Rattle.console.specs.Read.{read, machineCount, entry, query, nextAs}
 use Rattle.console.specs.Print.{refusalLine, machineLine, pairLine, manyLine, given}
 
 -- "1 to 512 in the program"
@@ -37,7 +37,7 @@ answerLine s (many xs) = manyLine xs (lca s xs)
 
 -- what is printed for a question to an accepted sheet: "A refused question prints that line"
 unfoldable pub answer : List ℕ → Query → List ℕ
-answer s q = given (verdict (questionTests s (partsOf q))) (answerLine s q)
+answer s q = given (verdict (questionTests s 0 (partsOf q))) (answerLine s q)
 
 -- what stands after the last LF: nothing, or "bytes after the last LF", which are illegible as the line that they would be
 unfoldable pub leftover : ℕ → List ℕ → List ℕ
@@ -84,7 +84,7 @@ unfoldable pub machineRun : ℕ → Lines → List ℕ
 machineRun n ls = given (verdict (empty n ∷ tooLarge most n ∷ [])) (machineLine n ++ sheetRun (parts n 0 ls))
 
 unfoldable pub run : Lines → List ℕ
-run ls = Option·elim (nextAs count ls) (illegible 1) λ found. machineRun (found .0) (found .1)
+run ls = Option·elim (nextAs machineCount ls) (illegible 1) λ found. machineRun (found .0) (found .1)
 
 -- the most bytes of an input
 abbrev pub mostBytes : ℕ

@@ -16,6 +16,7 @@ ghost use Rattle.text.specs.Puts.{Room, Puts};
 ghost use Rattle.console.specs.Forms.{mostListed, pair as Forms·pair, many as Forms·many};
 ghost use Rattle.console.specs.Run.{most, partLine, answer as Run·answer, questions as Run·questions};
 ghost use Rattle.console.specs.Gives.{queryOf, listedBy, AsksGive, Stands};
+ghost use Rattle.tree.specs.Tables.{lentBy};
 
 // What a question line gives: the question, and the position after the line.
 pub(crate) enum Asks {
@@ -37,7 +38,7 @@ pub(crate) fn questions(
     put: usize,
 ) -> usize
     requires { ⌜ (at ≤ length (now input)) × (first ≤ partLine most) ⌝ }
-    requires { ⌜ Stands (record { parents = now parents; label = now label; tour = now tour; lift = now lift }) (now work) ⌝ }
+    requires { ⌜ Stands (lentBy parents label tour lift) (now work) ⌝ }
     requires { ⌜ Room (now out) put (Run·questions (now parents) first (lines (drop at (now input)))) ⌝ }
     ensures { λ r. ⌜ Puts (now (out .entry)) put (Run·questions (now (parents .entry)) first (lines (drop at (now (input .entry))))) (now (out .exit)) r ⌝ }
 {
@@ -85,7 +86,7 @@ fn answer(
     put: usize,
 ) -> usize
     requires { ⌜ listedBy q ≤ length (now beside) ⌝ }
-    requires { ⌜ Stands (record { parents = now parents; label = now label; tour = now tour; lift = now lift }) (now work) ⌝ }
+    requires { ⌜ Stands (lentBy parents label tour lift) (now work) ⌝ }
     requires { ⌜ Room (now out) put (Run·answer (now parents) (queryOf (now beside) q)) ⌝ }
     ensures { λ r. ⌜ Puts (now (out .entry)) put (Run·answer (now (parents .entry)) (queryOf (now (beside .entry)) q)) (now (out .exit)) r ⌝ }
 {
@@ -107,7 +108,7 @@ fn pair(
     out: &mut [u8],
     put: usize,
 ) -> usize
-    requires { ⌜ Stands (record { parents = now parents; label = now label; tour = now tour; lift = now lift }) (now work) ⌝ }
+    requires { ⌜ Stands (lentBy parents label tour lift) (now work) ⌝ }
     requires { ⌜ Room (now out) put (Run·answer (now parents) (Forms·pair x y)) ⌝ }
     ensures { λ r. ⌜ Puts (now (out .entry)) put (Run·answer (now (parents .entry)) (Forms·pair x y)) (now (out .exit)) r ⌝ }
 {
@@ -141,7 +142,7 @@ fn many(
     out: &mut [u8],
     put: usize,
 ) -> usize
-    requires { ⌜ Stands (record { parents = now parents; label = now label; tour = now tour; lift = now lift }) (now work) ⌝ }
+    requires { ⌜ Stands (lentBy parents label tour lift) (now work) ⌝ }
     requires { ⌜ Room (now out) put (Run·answer (now parents) (Forms·many (now question))) ⌝ }
     ensures { λ r. ⌜ Puts (now (out .entry)) put (Run·answer (now (parents .entry)) (Forms·many (now (question .entry)))) (now (out .exit)) r ⌝ }
 {

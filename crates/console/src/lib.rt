@@ -22,6 +22,7 @@ ghost use Rattle.console.specs.Print.{machineLine};
 ghost use Rattle.console.specs.Run.{most, sheet as Run·sheet, parts, sheetRun, output};
 ghost use Rattle.console.specs.Gives.{Sized};
 ghost use Rattle.console.specs.Whole.{room as Whole·room, RunGives};
+ghost use Rattle.tree.specs.Tables.{lentBy};
 
 // What a run gives: how many bytes at the start of the buffer are the text; or how many bytes the buffer must have, which is then as it was.
 pub enum Written {
@@ -96,7 +97,7 @@ fn read_sheet(
     put: usize,
 ) -> usize
     requires { ⌜ at ≤ length (now input) ⌝ }
-    requires { ⌜ Sized (record { parents = now parents; label = now label; tour = now tour; lift = now lift }) (now work) ⌝ }
+    requires { ⌜ Sized (lentBy parents label tour lift) (now work) ⌝ }
     requires { ⌜ Room (now out) put (sheetRun (parts (length (now parents)) 0 (lines (drop at (now input))))) ⌝ }
     ensures { λ r. ⌜ Puts (now (out .entry)) put (sheetRun (parts (length (now (parents .entry))) 0 (lines (drop at (now (input .entry)))))) (now (out .exit)) r ⌝ }
 {
@@ -119,7 +120,7 @@ fn test_sheet(
     put: usize,
 ) -> usize
     requires { ⌜ at ≤ length (now input) ⌝ }
-    requires { ⌜ Sized (record { parents = now parents; label = now label; tour = now tour; lift = now lift }) (now work) ⌝ }
+    requires { ⌜ Sized (lentBy parents label tour lift) (now work) ⌝ }
     requires { ⌜ Room (now out) put (sheetRun (Run·sheet (now parents) (lines (drop at (now input))))) ⌝ }
     ensures { λ r. ⌜ Puts (now (out .entry)) put (sheetRun (Run·sheet (now (parents .entry)) (lines (drop at (now (input .entry)))))) (now (out .exit)) r ⌝ }
 {

@@ -4,7 +4,7 @@ use tree::Outcome;
 use tree::Refusal;
 use tree::Traced;
 ghost use mathlib.Core.List.{[]};
-ghost use Rattle.tree.specs.Verdict.{verdictOf, tracedOf};
+ghost use Rattle.tree.specs.Verdict.{verdictOf, told};
 ghost use Rattle.text.specs.Puts.{Room, Puts};
 ghost use Rattle.console.specs.Forms.{listText};
 ghost use Rattle.console.specs.Print.{refusalLine, machineLine, pairLine, manyLine, given};
@@ -35,8 +35,8 @@ pub(crate) fn outcome(out: &mut [u8], at: usize, r: Outcome) -> usize
 
 // The same of a pair that was traced.
 pub(crate) fn traced(out: &mut [u8], at: usize, r: Traced) -> usize
-    requires { ⌜ Room (now out) at (given (tracedOf r .0) []) ⌝ }
-    ensures { λ next. ⌜ Puts (now (out .entry)) at (given (tracedOf r .0) []) (now (out .exit)) next ⌝ }
+    requires { ⌜ Room (now out) at (given (verdictOf (told r)) []) ⌝ }
+    ensures { λ next. ⌜ Puts (now (out .entry)) at (given (verdictOf (told r)) []) (now (out .exit)) next ⌝ }
 {
     match r {
         Traced::Lifts(_) => at,

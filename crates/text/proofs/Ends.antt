@@ -76,4 +76,9 @@ module _ {b : List ℕ} {at i : ℕ} (o : Open b at i) where
   open-unended h =
       let short : length (drop at b) ≤ i - at = rw length-drop (omega arith) in
       let all : take (i - at) (drop at b) ≡ drop at b = take-all (i - at) (drop at b) short in
-      record { begun = o .begun; within = o .within; ended = λ q. absurd (omega arith); unended = λ _. o .is ∙ rw (drop-of-length-le b h, all, before-all-tail) refl }
+      record {
+        begun = o .begun;
+        within = o .within;
+        ended = λ q. absurd (omega arith);
+        unended = λ _. o .is ∙ rw (drop-of-length-le b h, all, before-all-tail) refl;
+      }

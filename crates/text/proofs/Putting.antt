@@ -65,7 +65,11 @@ room-then {l} {m} {at} {n} x y r p =
 -- two writes, one behind the other, are one
 pub puts-then : {l m a : List ℕ} {at n k : ℕ} (x y : List ℕ) → Room l at (x ++ y) → Puts l at x m n → Puts m n y a k → Puts l at (x ++ y) a k
 puts-then {l} {m} {a} {at} {n} {k} x y r p q = record {
-  written = q .written ∙ ap (λ (u : List ℕ). over u n y) (p .written) ∙ ap (λ (j : ℕ). over (over l at x) j y) (p .place) ∙ over-then l at x y (room-first _ x _ r);
+  written =
+      q .written
+      ∙ ap (λ (u : List ℕ). over u n y) (p .written)
+      ∙ ap (λ (j : ℕ). over (over l at x) j y) (p .place)
+      ∙ over-then l at x y (room-first _ x _ r);
   place = omega (arith, length-append x y, p .place, q .place);
 }
 

@@ -9,8 +9,16 @@ use Rattle.console.proofs.Testing.{sized-of}
 use Rattle.console.proofs.machine.Statement.{statement}
 use Rattle.console.proofs.machine.Tie as tie
 
+-- where the call began, from the machine line that was printed
+abbrev start : tie.After-machine → tie.Start
+start c = c .before .before .before .before
+
+-- the machine line that was printed, from the first buffer's part that is lent
+abbrev printed : tie.After-parents2 → tie.After-machine
+printed c = c .before .before .before .before .before .before .before .before .before .before
+
 machine-requires : tie.Need-machine-requires
-machine-requires c κs = let start = c .before .before .before in room-first _ (machineLine (start .args .n)) _ (start .pre .1)
+machine-requires c κs = let s = c .before .before .before in room-first _ (machineLine (s .args .n)) _ (s .pre .1)
 
 parents-requires : tie.Need-parents-requires
 parents-requires c κs = search needs
@@ -71,21 +79,29 @@ slice-aggregate-read-sheet-5 c = sym (length-take-le _ _ (array-borrow-prefix-wo
 
 read-sheet-requires : tie.Need-read-sheet-requires
 read-sheet-requires c κs =
-    let start = c .before .before .before .before .before .before .before .before .before .before .before .before .before .before .before .before .before .before .before in
-    let long = slice-aggregate-read-sheet (c .before .before .before .before .before) in
-    let sized =
-    sized-of _ (start .pre .0 .0) (start .pre .0 .1) long (slice-aggregate-read-sheet-2 (c .before .before .before .before))
-    (sym (c .before .before .before .before .before .before .before .tour-cells .ensures .0) ∙ slice-aggregate-read-sheet-3 (c .before .before .before)) (sym (c .before .before .before .before .before .before .lift-cells .ensures .0) ∙ slice-aggregate-read-sheet-4 (c .before .before))
-    (slice-aggregate-read-sheet-5 (c .before)) in
-    (start .pre .0 .2, (sized, rw (← long) (room-then (machineLine (start .args .n)) _ (start .pre .1) (c .before .before .before .before .before .before .before .before .before .before .before .before .before .before .before .machine .ensures))))
+    let work = c .before in
+    let lift = work .before in
+    let tour = lift .before in
+    let label = tour .before in
+    let parents = label .before in
+    let long = slice-aggregate-read-sheet parents in
+    let tour-long = sym (parents .before .before .tour-cells .ensures .0) ∙ slice-aggregate-read-sheet-3 tour in
+    let lift-long = sym (parents .before .lift-cells .ensures .0) ∙ slice-aggregate-read-sheet-4 lift in
+    let m = printed parents in
+    let (some, few, there) = start m .pre .0 in
+    let sized = sized-of _ some few long (slice-aggregate-read-sheet-2 label) tour-long lift-long (slice-aggregate-read-sheet-5 work) in
+    (there, (sized, rw (← long) (room-then (machineLine (start m .args .n)) _ (start m .pre .1) (m .machine .ensures))))
 
 same-length : tie.Need-same-length
-same-length c = c .before .before .before .before .before .before .before .read-sheet .kept .1 .1 .1 .1 .1 .1 .1 .0 ∙ c .before .before .before .before .before .before .before .before .before .before .before .before .before .before .before .before .before .before .before .before .before .before .before .machine .kept .0
+same-length c = search needs
 
 returns : tie.Need-returns
 returns c =
-    let start = c .before .before .before .before .before .before .before .before .before .before .before .before .before .before .before .before .before .before .before .before .before .before .before .before .before .before .before in
-    puts-then (machineLine (start .args .n)) _ (start .pre .1) (c .before .before .before .before .before .before .before .before .before .before .before .before .before .before .before .before .before .before .before .before .before .before .before .machine .ensures) (rw (← slice-aggregate-read-sheet (c .before .before .before .before .before .before .before .before .before .before .before .before .before)) at (c .before .before .before .before .before .before .before .read-sheet .ensures))
+    let c7 = c .before .before .before .before .before .before .before in
+    let parents = c7 .before .before .before .before .before .before in
+    let m = printed parents in
+    puts-then (machineLine (start m .args .n)) _ (start m .pre .1) (m .machine .ensures)
+    (rw (← slice-aggregate-read-sheet parents) at (c7 .read-sheet .ensures))
 
 pub machine-spec : {M : Type 1} → statement M
 machine-spec =

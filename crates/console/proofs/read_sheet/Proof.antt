@@ -6,6 +6,10 @@ use Rattle.console.proofs.Entering.{sheet-read, sized-as}
 use Rattle.console.proofs.read_sheet.Statement.{statement}
 use Rattle.console.proofs.read_sheet.Tie as tie
 
+-- what was lent, from the entries that were read
+abbrev start : tie.After-parents → tie.Start
+start c = c .before .before .before .before .before .before .before .before .before .before
+
 part-lines-requires : tie.Need-part-lines-requires
 part-lines-requires c κs = search needs
 
@@ -14,10 +18,12 @@ enum-known-end c = search needs
 
 test-sheet-requires : tie.Need-test-sheet-requires
 test-sheet-requires c κs =
-    let (_, (sized, room)) = c .before .before .before .before .before .before .before .before .before .before .before .before .before .before .before .before .before .before .before .before .pre in
-    let given = c .before .before .before .before .before .before .before .before .before .before .before .part-lines .ensures in
-    let long = c .before .before .before .before .before .before .before .before .before .before .parents .given in
-    (given .within _ (c .before .before .before .before .before .before .before .end .given .1), (sized-as sized long, rw (sheet-read given (c .before .before .before .before .before .before .before .end .given .1) long) room))
+    let c7 = c .before .before .before .before .before .before .before in
+    let p = c7 .before .before .before in
+    let end = c7 .end .given .1 in
+    let (_, (sized, room)) = start p .pre in
+    let all = p .before .part-lines .ensures in
+    (all .within _ end, (sized-as sized (p .parents .given), rw (sheet-read all end (p .parents .given)) room))
 
 enum-known-number : tie.Need-enum-known-number
 enum-known-number c = search needs
@@ -25,8 +31,9 @@ enum-known-number c = search needs
 refusal-requires : tie.Need-refusal-requires
 unfolding sheetRun
 refusal-requires c κs =
-    let (_, (_, room)) = c .before .before .before .before .before .before .before .before .before .before .before .before .before .before .before .pre in
-    rw (← sheet-read (c .before .before .before .before .before .before .part-lines .ensures) (c .before .before .number .given .1) (c .before .before .before .before .before .parents .given)) at room
+    let p = c .before .before .before .before .before in
+    let (_, (_, room)) = start p .pre in
+    rw (← sheet-read (p .before .part-lines .ensures) (c .before .before .number .given .1) (p .parents .given)) at room
 
 same-length : tie.Need-same-length
 same-length c = search needs
@@ -47,7 +54,11 @@ same-length-6 : tie.Need-same-length-6
 same-length-6 c = search needs
 
 returns : tie.Need-returns
-returns c = rw (sheet-read (c .before .before .before .before .before .before .before .before .before .before .before .before .before .before .before .before .before .before .before .before .before .before .part-lines .ensures) (c .before .before .before .before .before .before .before .before .before .before .before .before .before .before .before .before .before .before .end .given .1) (c .before .before .before .before .before .before .before .before .before .before .before .before .before .before .before .before .before .before .before .before .before .parents .given)) at (c .before .before .before .before .before .before .before .before .before .before .test-sheet .ensures)
+returns c =
+    let c10 = c .before .before .before .before .before .before .before .before .before .before in
+    let c18 = c10 .before .before .before .before .before .before .before .before in
+    let p = c18 .before .before .before in
+    rw (sheet-read (p .before .part-lines .ensures) (c18 .end .given .1) (p .parents .given)) at (c10 .test-sheet .ensures)
 
 same-length-7 : tie.Need-same-length-7
 same-length-7 c = search needs
@@ -57,7 +68,10 @@ same-length-8 c = search needs
 
 returns-2 : tie.Need-returns-2
 unfolding sheetRun
-returns-2 c = rw (← sheet-read (c .before .before .before .before .before .before .before .before .before .part-lines .ensures) (c .before .before .before .before .before .number .given .1) (c .before .before .before .before .before .before .before .before .parents .given)) (c .before .before .refusal .ensures)
+returns-2 c =
+    let c5 = c .before .before .before .before .before in
+    let p = c5 .before .before .before in
+    rw (← sheet-read (p .before .part-lines .ensures) (c5 .number .given .1) (p .parents .given)) (c .before .before .refusal .ensures)
 
 pub read-sheet-spec : {M : Type 1} → statement M
 read-sheet-spec =

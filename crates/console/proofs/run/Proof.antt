@@ -18,7 +18,9 @@ same-length : tie.Need-same-length
 same-length c = search needs
 
 returns-2 : tie.Need-returns-2
-returns-2 c = run-text (c .before .before .before .before .before .room .ensures) (c .before .before .before .before .if1 .left) (c .before .before .text .ensures)
+returns-2 c =
+    let c4 = c .before .before .before .before in
+    run-text (c4 .before .room .ensures) (c4 .if1 .left) (c .before .before .text .ensures)
 
 pub run-spec : {M : Type 1} → statement M
 run-spec = tie.close (tie.spec room-requires returns text-requires same-length returns-2)

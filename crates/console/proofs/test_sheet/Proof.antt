@@ -12,6 +12,14 @@ use Rattle.console.proofs.test_sheet.Tie as tie
 abbrev rest : tie.Start → Lines
 rest start = lines (drop (start .args .at) (start .args .input .now))
 
+-- where the call began, from the call that built the tables
+abbrev start : tie.After-build → tie.Start
+start c = c .before .before .before .before .before .before .before .before .before .before .before .before
+
+-- the call that built the tables, from the work that came back
+abbrev built : tie.After-work → tie.After-build
+built c = c .before .before .before .before .before .before .before
+
 build-requires : tie.Need-build-requires
 build-requires c κs = search needs
 
@@ -23,8 +31,9 @@ enum-told-2 c = search needs
 
 outcome-requires : tie.Need-outcome-requires
 outcome-requires c κs =
-    let start = c .before .before .before .before .before .before .before .before .before .before .before .before .before .before .before .before .before .before .before .before .before .before .before in
-    rw (sheet-refused (start .pre .1 .0) (c .before .before .before .before .before .before .before .before .before .before .before .build .ensures) (rest start) (c .before .enum-told2 .given .1)) (start .pre .1 .1)
+    let b = built (c .before .before .before .before) in
+    let s = start b in
+    rw (sheet-refused (s .pre .1 .0) (b .build .ensures) (rest s) (c .before .enum-told2 .given .1)) (s .pre .1 .1)
 
 same-length : tie.Need-same-length
 same-length c = search needs
@@ -43,19 +52,23 @@ same-length-5 c = search needs
 
 returns : tie.Need-returns
 returns c =
-    let start = c .before .before .before .before .before .before .before .before .before .before .before .before .before .before .before .before .before .before .before .before .before .before .before .before .before .before in
-    rw (sheet-refused (start .pre .1 .0) (c .before .before .before .before .before .before .before .before .before .before .before .before .before .before .build .ensures) (rest start) (c .before .before .before .before .enum-told2 .given .1)) at (c .before .before .outcome .ensures)
+    let c4 = c .before .before .before .before in
+    let b = built (c4 .before .before .before) in
+    let s = start b in
+    rw (sheet-refused (s .pre .1 .0) (b .build .ensures) (rest s) (c4 .enum-told2 .given .1)) at (c .before .before .outcome .ensures)
 
 add-questions : tie.Need-add-questions
-add-questions c = let start = c .before .before .before .before .before .before .before .before .before .before .before .before .before .before .before .before .before .before .before .before .before .before in omega (arith, start .pre .1 .0 .small)
+add-questions c = search needs
 
 questions-requires : tie.Need-questions-requires
 questions-requires c κs =
-    let start = c .before .before .before .before .before .before .before .before .before .before .before .before .before .before .before .before .before .before .before .before .before .before .before .before .before .before .before in
-    let sized = start .pre .1 .0 in
-    let built = c .before .before .before .before .before .before .before .before .before .before .before .before .before .before .before .build .ensures in
-    let accepted = c .before .before .before .before .before .enum-told .given .1 in
-    ((start .pre .0, omega (arith, sized .small)), (sheet-stands sized built accepted, rw (sheet-accepted sized built accepted (rest start)) (start .pre .1 .1)))
+    let c5 = c .before .before .before .before .before in
+    let b = built (c5 .before .before .before) in
+    let s = start b in
+    let (there, (sized, room)) = s .pre in
+    let g = b .build .ensures in
+    let accepted = c5 .enum-told .given .1 in
+    ((there, omega (arith, sized .small)), (sheet-stands sized g accepted, rw (sheet-accepted sized g accepted (rest s)) room))
 
 same-length-6 : tie.Need-same-length-6
 same-length-6 c = search needs
@@ -74,8 +87,11 @@ same-length-10 c = search needs
 
 returns-2 : tie.Need-returns-2
 returns-2 c =
-    let start = c .before .before .before .before .before .before .before .before .before .before .before .before .before .before .before .before .before .before .before .before .before .before .before .before .before .before .before .before .before .before .before .before in
-    rw (sheet-accepted (start .pre .1 .0) (c .before .before .before .before .before .before .before .before .before .before .before .before .before .before .before .before .before .before .before .before .build .ensures) (c .before .before .before .before .before .before .before .before .before .before .enum-told .given .1) (rest start)) at (c .before .before .before .before .questions .ensures)
+    let c4 = c .before .before .before .before in
+    let c10 = c4 .before .before .before .before .before .before in
+    let b = built (c10 .before .before .before) in
+    let s = start b in
+    rw (sheet-accepted (s .pre .1 .0) (b .build .ensures) (c10 .enum-told .given .1) (rest s)) at (c4 .questions .ensures)
 
 pub test-sheet-spec : {M : Type 1} → statement M
 test-sheet-spec =

@@ -18,13 +18,17 @@ same-length : tie.Need-same-length
 same-length c = search needs
 
 returns : tie.Need-returns
-returns c = text-written (c .before .before .before .before .before .before .before .before .before .pre) (c .before .before .before .before .before .run .ensures) (c .before .count .given .1)
+returns c =
+    let r = c .before .before .before .before .before in
+    text-written (r .before .before .before .before .pre) (r .run .ensures) (c .before .count .given .1)
 
 same-length-2 : tie.Need-same-length-2
 same-length-2 c = search needs
 
 returns-2 : tie.Need-returns-2
-returns-2 c = absurd (not-short (c .before .before .before .before .before .before .before .before .pre) (c .before .before .before .before .run .ensures) (c .enum-told .given .1))
+returns-2 c =
+    let r = c .before .before .before .before in
+    absurd (not-short (r .before .before .before .before .pre) (r .run .ensures) (c .enum-told .given .1))
 
 pub text-spec : {M : Type 1} → statement M
 text-spec = tie.close (tie.spec run-requires enum-known-count enum-told same-length returns same-length-2 returns-2)

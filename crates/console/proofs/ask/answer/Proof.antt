@@ -10,16 +10,26 @@ enum-known-q : tie.Need-enum-known-q
 enum-known-q c = search needs
 
 pair-requires : tie.Need-pair-requires
-pair-requires c κs = let start = c .before .before .before .before .before .before .before .before .before .before .before .before in (start .pre .1 .0, rw (c .before .before .before .q .given .1) at (start .pre .1 .1))
+pair-requires c κs =
+    let q = c .before .before .before in
+    let s = q .before .before .before .before .before .before .before .before .before in
+    (s .pre .1 .0, rw (q .q .given .1) at (s .pre .1 .1))
 
 enum-known-q-2 : tie.Need-enum-known-q-2
 enum-known-q-2 c = search needs
 
 slice-aggregate-many : tie.Need-slice-aggregate-many
-slice-aggregate-many c = let start = c .before .before .before .before .before .before .before .before .before .before .before in let few = rw (c .before .before .q2 .given .1) at (start .pre .0) in sym (length-take-le _ _ few)
+slice-aggregate-many c =
+    let q = c .before .before in
+    let s = q .before .before .before .before .before .before .before .before .before in
+    let few = rw (q .q2 .given .1) at (s .pre .0) in
+    sym (length-take-le _ _ few)
 
 many-requires : tie.Need-many-requires
-many-requires c κs = let start = c .before .before .before .before .before .before .before .before .before .before .before .before .before in (start .pre .1 .0, rw (c .before .before .before .before .q2 .given .1) at (start .pre .1 .1))
+many-requires c κs =
+    let q = c .before .before .before .before in
+    let s = q .before .before .before .before .before .before .before .before .before in
+    (s .pre .1 .0, rw (q .q2 .given .1) at (s .pre .1 .1))
 
 same-length : tie.Need-same-length
 same-length c = search needs
@@ -28,7 +38,9 @@ same-length-2 : tie.Need-same-length-2
 same-length-2 c = search needs
 
 returns : tie.Need-returns
-returns c = rw (c .before .before .before .before .before .before .before .before .q .given .1) (c .before .before .before .before .pair .ensures)
+returns c =
+    let p = c .before .before .before .before in
+    rw (p .before .before .before .before .q .given .1) (p .pair .ensures)
 
 same-length-3 : tie.Need-same-length-3
 same-length-3 c = search needs
@@ -37,7 +49,9 @@ same-length-4 : tie.Need-same-length-4
 same-length-4 c = search needs
 
 returns-2 : tie.Need-returns-2
-returns-2 c = rw (c .before .before .before .before .before .before .before .before .before .q2 .given .1) (c .before .before .before .before .many .ensures)
+returns-2 c =
+    let m = c .before .before .before .before in
+    rw (m .before .before .before .before .before .q2 .given .1) (m .many .ensures)
 
 pub answer-spec : {M : Type 1} → statement M
 answer-spec =

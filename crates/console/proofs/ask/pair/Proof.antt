@@ -2,13 +2,43 @@
 -- Assumes nothing.
 use Prim.Native.Nat.{ℕ}
 use native.Mathlib.Omega.{arith}
-use mathlib.Core.Path.{refl, sym, subst}
-use mathlib.Core.List.{List}
+use mathlib.Core.Path.{_≡_, refl, sym, subst}
+use mathlib.Core.List.{List, []}
 use borrow.Author.Needs.{needs}
+use lib.ListN.{getD}
+use Rattle.tree.specs.Verdict.{verdictOf, told}
 use Rattle.text.specs.Puts.{Room}
+use Rattle.console.specs.Forms.{pair}
+use Rattle.console.specs.Print.{pairLine, given}
+use Rattle.console.specs.Run.{answer}
 use Rattle.console.proofs.Answering.{pair-refused, pair-answered, pair-small}
 use Rattle.console.proofs.ask.pair.Statement.{statement}
 use Rattle.console.proofs.ask.pair.Tie as tie
+
+-- the call of the trail, from the rows that came back
+abbrev called : tie.After-rows2 → tie.After-trail
+called c = c .before .before .before .before
+
+-- where this call began, from that one
+abbrev start : tie.After-trail → tie.Start
+start c = c .before .before .before .before .before .before .before .before .before .before .before
+
+-- what is to be printed
+abbrev line : tie.After-rows2 → List ℕ
+line c = let s = start (called c) .args in answer (s .parents .now) (pair (s .x) (s .y))
+
+-- it is the line of the refusal, where the pair is refused
+refused : (c : tie.After-enum-told) → let d = c .before .before in given (verdictOf (told (called d .trail .result))) [] ≡ line d
+refused c =
+    let t = called (c .before .before) in
+    pair-refused (start t .pre .0) (t .trail .ensures) refl refl (c .enum-told .given .1)
+
+-- it is the pair's line, where it is traced
+answered : (c : tie.After-r) → let d = c .before .before in let s = start (called d) .args in
+    pairLine (s .x) (s .y) (getD (called d .trail .last .1 .1 .1 .1 .1 .1 .0) 0 0) (c .r .given .0 .0) ≡ line d
+answered c =
+    let t = called (c .before .before) in
+    pair-answered (start t .pre .0) (t .trail .ensures) refl refl (c .r .given .1)
 
 slice-aggregate-trail : tie.Need-slice-aggregate-trail
 slice-aggregate-trail c = search needs
@@ -30,8 +60,8 @@ enum-told c = search needs
 
 traced-requires : tie.Need-traced-requires
 traced-requires c κs =
-    let start = c .before .before .before .before .before .before .before .before .before .before .before .before .before .before .before .before .before .before in
-    rw (pair-refused (start .pre .0) (c .before .before .before .before .before .before .before .trail .ensures) refl refl (c .before .enum-told .given .1)) (start .pre .1)
+    let d = c .before in
+    rw (refused d) (start (called (d .before .before)) .pre .1)
 
 same-length : tie.Need-same-length
 same-length c = search needs
@@ -40,23 +70,22 @@ same-length-2 : tie.Need-same-length-2
 same-length-2 c = search needs
 
 returns : tie.Need-returns
-returns c =
-    let start = c .before .before .before .before .before .before .before .before .before .before .before .before .before .before .before .before .before .before .before .before .before in
-    rw (pair-refused (start .pre .0) (c .before .before .before .before .before .before .before .before .before .before .trail .ensures) refl refl (c .before .before .before .before .enum-told .given .1)) at (c .before .before .traced .ensures)
+returns c = rw (refused (c .before .before .before .before)) at (c .before .before .traced .ensures)
 
 array-read-pair : tie.Need-array-read-pair
 array-read-pair c = search needs
 
 cast-pair : tie.Need-cast-pair
 cast-pair c =
-    let start = c .before .before .before .before .before .before .before .before .before .before .before .before .before .before .before .before .before .before .before in
-    omega (arith, pair-small (start .pre .0) (c .before .before .before .before .before .before .before .before .trail .ensures) refl refl (c .before .before .r .given .1))
+    let r = c .before .before in
+    let t = called (r .before .before) in
+    omega (arith, pair-small (start t .pre .0) (t .trail .ensures) refl refl (r .r .given .1))
 
 pair-requires : tie.Need-pair-requires
 pair-requires c κs =
-    let start = c .before .before .before .before .before .before .before .before .before .before .before .before .before .before .before .before .before .before .before in
-    let line = pair-answered (start .pre .0) (c .before .before .before .before .before .before .before .before .trail .ensures) refl refl (c .before .before .r .given .1) in
-    subst (λ (u : List ℕ). Room (start .args .out .now) (start .args .put) u) (sym line) (start .pre .1)
+    let r = c .before .before in
+    let s = start (called (r .before .before)) in
+    subst (λ (u : List ℕ). Room (s .args .out .now) (s .args .put) u) (sym (answered r)) (s .pre .1)
 
 same-length-3 : tie.Need-same-length-3
 same-length-3 c = search needs
@@ -65,9 +94,7 @@ same-length-4 : tie.Need-same-length-4
 same-length-4 c = search needs
 
 returns-2 : tie.Need-returns-2
-returns-2 c =
-    let start = c .before .before .before .before .before .before .before .before .before .before .before .before .before .before .before .before .before .before .before .before .before .before in
-    rw (pair-answered (start .pre .0) (c .before .before .before .before .before .before .before .before .before .before .before .trail .ensures) refl refl (c .before .before .before .before .before .r .given .1)) at (c .before .before .pair .ensures)
+returns-2 c = rw (answered (c .before .before .before .before .before)) at (c .before .before .pair .ensures)
 
 pub pair-spec : {M : Type 1} → statement M
 pair-spec =

@@ -7,6 +7,10 @@ use Rattle.console.proofs.Taking.{question-unread, question-none, quest
 use Rattle.console.proofs.ask.question.Statement.{statement}
 use Rattle.console.proofs.ask.question.Tie as tie
 
+-- the call that read a line, from the line that it read
+abbrev called : tie.After-reading → tie.After-next-line
+called c = c .before .before .before .before
+
 next-line-requires : tie.Need-next-line-requires
 next-line-requires c κs = search needs
 
@@ -29,13 +33,18 @@ same-length-2 : tie.Need-same-length-2
 same-length-2 c = search needs
 
 returns-2 : tie.Need-returns-2
-returns-2 c = question-none (c .before .before .before .before .before .before .next-line .ensures) (c .before .before .reading .given .1) (λ q e. ⊎-elim (λ h. omega arith) (λ h. omega arith) (rw e at (c .match2 .keys2)))
+returns-2 c =
+    let r = c .before .before in
+    question-none (called r .next-line .ensures) (r .reading .given .1) (λ q e. ⊎-elim (λ h. omega arith) (λ h. omega arith) (rw e at (c .match2 .keys2)))
 
 same-length-3 : tie.Need-same-length-3
 same-length-3 c = search needs
 
 returns-3 : tie.Need-returns-3
-returns-3 c = question-own (c .before .before .before .before .before .before .before .before .next-line .ensures) (c .before .before .before .before .reading .given .1) (c .before .line .given .1)
+returns-3 c =
+    let l = c .before in
+    let r = l .before .before .before in
+    question-own (called r .next-line .ensures) (r .reading .given .1) (l .line .given .1)
 
 pub question-spec : {M : Type 1} → statement M
 question-spec =

@@ -20,10 +20,14 @@ Inv-loop line at beside₀ i₀ count₀ t9 beside i count = Listing line at mos
 abbrev μ-loop : tie.MeasureT-loop
 μ-loop line at beside₀ i₀ count₀ t9 beside i count = mostListed - count
 
+-- the turn of the loop, from the space that it found
+abbrev turn : tie.After-start Inv-loop μ-loop → tie.At-loop Inv-loop μ-loop
+turn c = c .before .before .before .before .before
+
 -- the space that was found
 space : (c : tie.After-start Inv-loop μ-loop)
-    → let l = c .before .before .before .before .before .before .before .before .args .line .now in
-    Finds l (after (bytes " ") (drop (c .before .before .before .before .before .loop .i) l)) (At (c .start .given .0 .0))
+    → let l = turn c .before .before .before .args .line .now in
+    Finds l (after (bytes " ") (drop (turn c .loop .i) l)) (At (c .start .given .0 .0))
 unfolding bytes
 space c = rw (c .start .given .1) at (c .before .before .find-word .ensures)
 
@@ -65,8 +69,8 @@ same-length-2 c = search needs
 
 returns-2 : tie.Need-returns-2 Inv-loop μ-loop
 returns-2 c =
-    listing-broken (c .before .before .before .before .before .before .before .before .before .loop .inv .0) (omega arith)
-    (space (c .before .before .before .before)) (rw (c .enum-told2 .given .1) at (c .before .before .find-number .ensures))
+    let s = c .before .before .before .before in
+    listing-broken (turn s .loop .inv .0) (omega arith) (space s) (rw (c .enum-told2 .given .1) at (c .before .before .find-number .ensures))
 
 mul-beside : tie.Need-mul-beside Inv-loop μ-loop
 mul-beside c = search needs
@@ -82,10 +86,9 @@ loop-less c = search needs
 
 loop-again : tie.Need-loop-again Inv-loop μ-loop
 loop-again c =
-    let more =
-    listing-more (c .before .before .before .before .before .before .before .before .before .before .loop .inv .0) (omega arith)
-    (space (c .before .before .before .before .before)) (rw (c .before .x .given .1) at (c .before .before .before .find-number .ensures)) (omega arith) in
-    (more, search needs)
+    let s = c .before .before .before .before .before in
+    let found = rw (c .before .x .given .1) at (c .before .before .before .find-number .ensures) in
+    (listing-more (turn s .loop .inv .0) (omega arith) (space s) found (omega arith), search needs)
 
 same-length-3 : tie.Need-same-length-3 Inv-loop μ-loop
 same-length-3 c = search needs

@@ -18,15 +18,23 @@ use Rattle.console.proofs.form.machine.Tie as tie
 abbrev line : tie.Start → List ℕ
 line c = c .args .line .now
 
+-- where the call began, from the place of the word
+abbrev start : tie.After-at → tie.Start
+start c = c .before .before .before .before .before
+
+-- the place of the word, from the number
+abbrev to-word : tie.After-n → tie.After-at
+to-word c = c .before .before .before .before .before
+
 -- the word that was found
-word : (c : tie.After-at) → let l = line (c .before .before .before .before .before) in Finds l (after (bytes "(machine ") l) (At (c .at .given .0 .0))
+word : (c : tie.After-at) → let l = line (start c) in Finds l (after (bytes "(machine ") l) (At (c .at .given .0 .0))
 unfolding bytes
 word c = rw (c .at .given .1) at (c .before .before .find-word .ensures)
 
 -- the number that was found behind it
 number : (c : tie.After-n)
-    → let l = line (c .before .before .before .before .before .before .before .before .before .before) in
-    FindsNumber l (numberThen (bytes ")") (drop (c .before .before .before .before .before .at .given .0 .0) l)) (Value (c .n .given .0 .0) (c .n .given .0 .1 .0))
+    → let l = line (start (to-word c)) in
+    FindsNumber l (numberThen (bytes ")") (drop (to-word c .at .given .0 .0) l)) (Value (c .n .given .0 .0) (c .n .given .0 .1 .0))
 unfolding bytes
 number c = rw (c .n .given .1) at (c .before .before .find-number-then .ensures)
 
@@ -67,14 +75,14 @@ returns-2 c = λ beside. reads-nothing
 returns-3 : tie.Need-returns-3
 unfolding machineForm bytes
 returns-3 c = λ beside. reads-nothing
-    (goes-on _ (word (c .before .before .before .before .before .before .before) .is)
+    (goes-on _ (word (to-word (c .before .before)) .is)
     (goes-on _ (number (c .before .before) .is)
     (left-over _ _ _ (number (c .before .before) .within) (c .if1 .taken))))
 
 returns-4 : tie.Need-returns-4
 unfolding machineForm bytes
 returns-4 c = λ beside. reads-form zero-le
-    (goes-on _ (word (c .before .before .before .before .before .before .before) .is)
+    (goes-on _ (word (to-word (c .before .before)) .is)
     (goes-on _ (number (c .before .before) .is)
     (read-whole _ _ _ (c .if1 .left))))
 

@@ -22,22 +22,34 @@ use Rattle.console.proofs.form.many.Tie as tie
 abbrev line : tie.Start → List ℕ
 line c = c .args .line .now
 
+-- where the call began, from the place of the word
+abbrev start : tie.After-at → tie.Start
+start c = c .before .before .before .before .before .before
+
+-- the place of the word, from the count of the numbers
+abbrev to-word : tie.After-count → tie.After-at
+to-word c = c .before .before .before .before .before .before .before
+
+-- the count of the numbers, from the place of the bracket
+abbrev to-count : tie.After-end → tie.After-count
+to-count c = c .before .before .before .before .before
+
 -- the word that was found
-word : (c : tie.After-at) → let l = line (c .before .before .before .before .before .before) in Finds l (after (bytes "(many") l) (At (c .at .given .0 .0))
+word : (c : tie.After-at) → let l = line (start c) in Finds l (after (bytes "(many") l) (At (c .at .given .0 .0))
 unfolding bytes
 word c = rw (c .at .given .1) at (c .before .before .find-word .ensures)
 
 -- the numbers that were found behind it
 numbers : (c : tie.After-count)
-    → let l = line (c .before .before .before .before .before .before .before .before .before .before .before .before .before) in
-    ListedGives l (c .before .before .before .before .before .before .before .at .given .0 .0) mostListed (c .before .before .before .before .listed .last .1 .1 .0)
+    → let l = line (start (to-word c)) in
+    ListedGives l (to-word c .at .given .0 .0) mostListed (c .before .before .before .before .listed .last .1 .1 .0)
     (Listed (c .count .given .0 .0) (c .count .given .0 .1 .0))
 numbers c = rw (c .count .given .1) at (c .before .before .before .before .listed .ensures)
 
 -- the bracket that was found behind them
 bracket : (c : tie.After-end)
-    → let l = line (c .before .before .before .before .before .before .before .before .before .before .before .before .before .before .before .before .before .before) in
-    Finds l (after (bytes ")") (drop (c .before .before .before .before .before .count .given .0 .1 .0) l)) (At (c .end .given .0 .0))
+    → let l = line (start (to-word (to-count c))) in
+    Finds l (after (bytes ")") (drop (to-count c .count .given .0 .1 .0) l)) (At (c .end .given .0 .0))
 unfolding bytes
 bracket c = rw (c .end .given .1) at (c .before .before .find-word2 .ensures)
 
@@ -92,9 +104,11 @@ same-length-2 c = search needs
 
 returns-3 : tie.Need-returns-3
 unfolding manyForm bytes
-returns-3 c = reads-nothing
-    (goes-on _ (word (c .before .before .before .before .before .before .before .before .before .before .before .before) .is)
-    (goes-on _ (numbers (c .before .before .before .before .before) .is)
+returns-3 c =
+    let d = c .before .before .before .before .before in
+    reads-nothing
+    (goes-on _ (word (to-word d) .is)
+    (goes-on _ (numbers d .is)
     (stops _ (rw (c .enum-told3 .given .1) at (c .before .before .find-word2 .ensures .is)))))
 
 same-length-3 : tie.Need-same-length-3
@@ -102,11 +116,14 @@ same-length-3 c = search needs
 
 returns-4 : tie.Need-returns-4
 unfolding manyForm bytes
-returns-4 c = reads-nothing
-    (goes-on _ (word (c .before .before .before .before .before .before .before .before .before .before .before .before .before .before) .is)
-    (goes-on _ (numbers (c .before .before .before .before .before .before .before) .is)
-    (goes-on _ (bracket (c .before .before) .is)
-    (left-over _ _ _ (bracket (c .before .before) .within) (c .if1 .taken)))))
+returns-4 c =
+    let e = c .before .before in
+    let d = to-count e in
+    reads-nothing
+    (goes-on _ (word (to-word d) .is)
+    (goes-on _ (numbers d .is)
+    (goes-on _ (bracket e .is)
+    (left-over _ _ _ (bracket e .within) (c .if1 .taken)))))
 
 same-length-4 : tie.Need-same-length-4
 same-length-4 c = search needs
@@ -114,10 +131,10 @@ same-length-4 c = search needs
 returns-5 : tie.Need-returns-5
 unfolding manyForm bytes
 returns-5 c =
-    let few = numbers (c .before .before .before .before .before .before .before) .within _ _ refl .0 in
+    let few = numbers (to-count (c .before .before)) .within _ _ refl .0 in
     reads-form (omega arith)
-    (goes-on _ (word (c .before .before .before .before .before .before .before .before .before .before .before .before .before .before) .is)
-    (goes-on _ (numbers (c .before .before .before .before .before .before .before) .is)
+    (goes-on _ (word (to-word (to-count (c .before .before))) .is)
+    (goes-on _ (numbers (to-count (c .before .before)) .is)
     (goes-on _ (bracket (c .before .before) .is)
     (read-whole _ _ _ (c .if1 .left)))))
 

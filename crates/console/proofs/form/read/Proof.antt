@@ -33,8 +33,9 @@ enum-told-4 c = search needs
 
 returns-3 : tie.Need-returns-3
 returns-3 c =
-    reads-short _ (c .before .before .before .before .before .before .if1 .left)
-    (is-other _ (c .before .before .before .enum-told .given .1) (c .before .before .before .before .before .machine .ensures _)
+    let m = c .before .before .before in
+    reads-short _ (m .before .before .before .if1 .left)
+    (is-other _ (m .enum-told .given .1) (m .before .before .machine .ensures _)
     (is-first _ (c .enum-told4 .given .1) (c .before .before .part .ensures _)))
 
 pair-requires : tie.Need-pair-requires
@@ -48,9 +49,11 @@ enum-told-6 c = search needs
 
 returns-4 : tie.Need-returns-4
 returns-4 c =
-    reads-short _ (c .before .before .before .before .before .before .before .before .before .if1 .left)
-    (is-other _ (c .before .before .before .before .before .before .enum-told .given .1) (c .before .before .before .before .before .before .before .before .machine .ensures _)
-    (is-other _ (c .before .before .before .enum-told3 .given .1) (c .before .before .before .before .before .part .ensures _)
+    let p = c .before .before .before in
+    let m = p .before .before .before in
+    reads-short _ (m .before .before .before .if1 .left)
+    (is-other _ (m .enum-told .given .1) (m .before .before .machine .ensures _)
+    (is-other _ (p .enum-told3 .given .1) (p .before .before .part .ensures _)
     (is-first _ (c .enum-told6 .given .1) (c .before .before .pair .ensures _))))
 
 many-requires : tie.Need-many-requires
@@ -61,10 +64,13 @@ same-length c = search needs
 
 returns-5 : tie.Need-returns-5
 returns-5 c =
-    reads-short _ (c .before .before .before .before .before .before .before .before .before .before .before .before .before .if1 .left)
-    (is-other _ (c .before .before .before .before .before .before .before .before .before .before .enum-told .given .1) (c .before .before .before .before .before .before .before .before .before .before .before .before .machine .ensures _)
-    (is-other _ (c .before .before .before .before .before .before .before .enum-told3 .given .1) (c .before .before .before .before .before .before .before .before .before .part .ensures _)
-    (is-other _ (c .before .before .before .before .enum-told5 .given .1) (c .before .before .before .before .before .before .pair .ensures _) (c .before .before .many .ensures))))
+    let q = c .before .before .before .before in
+    let p = q .before .before .before in
+    let m = p .before .before .before in
+    reads-short _ (m .before .before .before .if1 .left)
+    (is-other _ (m .enum-told .given .1) (m .before .before .machine .ensures _)
+    (is-other _ (p .enum-told3 .given .1) (p .before .before .part .ensures _)
+    (is-other _ (q .enum-told5 .given .1) (q .before .before .pair .ensures _) (c .before .before .many .ensures))))
 
 pub read-spec : {M : Type 1} → statement M
 read-spec =

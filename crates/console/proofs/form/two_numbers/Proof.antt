@@ -30,13 +30,15 @@ word c = rw (c .at .given .1) at (c .before .before .find-word .ensures)
 -- the number that was found behind it
 number : (c : tie.After-x)
     → let given = start (to-word c) .args in
-    FindsNumber (given .line .now) (numberThen (given .middle .now) (drop (to-word c .at .given .0 .0) (given .line .now))) (Value (c .x .given .0 .0) (c .x .given .0 .1 .0))
+    FindsNumber (given .line .now) (numberThen (given .middle .now) (drop (to-word c .at .given .0 .0) (given .line .now)))
+    (Value (c .x .given .0 .0) (c .x .given .0 .1 .0))
 number c = rw (c .x .given .1) at (c .before .before .find-number-then .ensures)
 
 -- the number that was found behind that
 second : (c : tie.After-y)
     → let given = start (to-word (to-number c)) .args in
-    FindsNumber (given .line .now) (numberThen (given .last .now) (drop (to-number c .x .given .0 .1 .0) (given .line .now))) (Value (c .y .given .0 .0) (c .y .given .0 .1 .0))
+    FindsNumber (given .line .now) (numberThen (given .last .now) (drop (to-number c .x .given .0 .1 .0) (given .line .now)))
+    (Value (c .y .given .0 .0) (c .y .given .0 .1 .0))
 second c = rw (c .y .given .1) at (c .before .before .find-number-then2 .ensures)
 
 find-word-requires : tie.Need-find-word-requires

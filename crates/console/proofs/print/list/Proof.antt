@@ -20,6 +20,10 @@ Inv-loop out₀ at question end₀ i₀ t6 out end i = (i ≤ length question) �
 abbrev μ-loop : tie.MeasureT-loop
 μ-loop out₀ at question end₀ i₀ t6 out end i = length question - i
 
+-- where the call began, from a turn of the loop
+abbrev start : tie.At-loop Inv-loop μ-loop → tie.Start Inv-loop μ-loop
+start c = c .before .before .before
+
 loop-holds : tie.Need-loop-holds Inv-loop μ-loop
 unfolding listText
 loop-holds c = (search needs, search needs, puts-none (omega arith))
@@ -38,7 +42,9 @@ cast-put-word-number c = omega (arith, c .shared-slice-known2 .given (c .before 
 
 put-word-number-requires : tie.Need-put-word-number-requires Inv-loop μ-loop
 unfolding bytes
-put-word-number-requires c κs = list-room _ _ (c .before .before .before .before .before .before .before .pre) (c .before .before .before .loop-test .taken) (c .before .before .before .before .loop .inv .2)
+put-word-number-requires c κs =
+    let t = c .before .before .before .before in
+    list-room _ _ (start t .pre) (c .before .before .before .loop-test .taken) (t .loop .inv .2)
 
 add-i : tie.Need-add-i Inv-loop μ-loop
 add-i c = search needs
@@ -49,7 +55,9 @@ loop-less c = search needs
 loop-again : tie.Need-loop-again Inv-loop μ-loop
 unfolding bytes
 loop-again c =
-    (search needs, search needs, list-next _ _ (c .before .before .before .before .before .before .before .before .before .before .pre) (c .before .before .before .before .before .before .loop-test .taken) (c .before .before .before .before .before .before .before .loop .inv .2) (c .before .before .put-word-number .ensures))
+    let d = c .before .before .before .before .before .before in
+    let t = d .before in
+    (search needs, search needs, list-next _ _ (start t .pre) (d .loop-test .taken) (t .loop .inv .2) (c .before .before .put-word-number .ensures))
 
 same-length : tie.Need-same-length Inv-loop μ-loop
 same-length c = search needs

@@ -21,14 +21,18 @@ slice-aggregate-put-word c = search needs
 
 put-word-requires : tie.Need-put-word-requires
 unfolding machineLine bytes
-put-word-requires c κs = room-then _ (bytes ")\n") (c .before .before .before .before .before .before .before .before .pre) (c .before .before .before .before .put-word-number .ensures)
+put-word-requires c κs =
+    let d = c .before .before .before .before in
+    room-then _ (bytes ")\n") (d .before .before .before .before .pre) (d .put-word-number .ensures)
 
 same-length : tie.Need-same-length
 same-length c = search needs
 
 returns : tie.Need-returns
 unfolding machineLine bytes
-returns c = puts-then _ _ (c .before .before .before .before .before .before .before .before .before .before .before .pre) (c .before .before .before .before .before .before .before .put-word-number .ensures) (c .before .before .put-word .ensures)
+returns c =
+    let d = c .before .before .before .before .before .before .before in
+    puts-then _ _ (d .before .before .before .before .pre) (d .put-word-number .ensures) (c .before .before .put-word .ensures)
 
 pub machine-spec : {M : Type 1} → statement M
 machine-spec =

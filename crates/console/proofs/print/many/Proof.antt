@@ -4,15 +4,39 @@ use borrow.Author.Needs.{needs}
 use Prim.Native.Nat.{ℕ}
 use mathlib.Core.List.{List, _++_}
 use Rattle.text.specs.Bytes.{bytes, wordNumber}
+use Rattle.text.specs.Puts.{Room}
 use Rattle.text.proofs.Putting.{room-first, room-then, puts-then}
 use Rattle.console.specs.Forms.{listText}
 use Rattle.console.specs.Print.{manyLine}
 use Rattle.console.proofs.print.many.Statement.{statement}
 use Rattle.console.proofs.print.many.Tie as tie
 
+-- the line behind its numbers
+abbrev from-carrier : tie.Start → List ℕ
+from-carrier s = wordNumber (bytes " (carrier ") (s .args .carrier) ++ bytes "))\n"
+
 -- the line behind its first word
 abbrev behind : tie.Start → List ℕ
-behind s = listText (s .args .question .now) ++ (wordNumber (bytes " (carrier ") (s .args .carrier) ++ bytes "))\n")
+behind s = listText (s .args .question .now) ++ from-carrier s
+
+-- where the call began, from the first write
+abbrev start : tie.After-put-word → tie.Start
+start c = c .before .before .before .before .before
+
+-- each write, from the next one
+abbrev first : tie.After-list → tie.After-put-word
+first c = c .before .before .before .before
+
+abbrev second : tie.After-put-word-number → tie.After-list
+second c = c .before .before .before .before .before
+
+-- behind each write there is room for the rest of the line
+room₁ : (c : tie.After-put-word) → Room (c .put-word .last .0) (c .put-word .result) (behind (start c))
+unfolding manyLine bytes
+room₁ c = room-then _ (behind (start c)) (start c .pre) (c .put-word .ensures)
+
+room₂ : (c : tie.After-list) → Room (c .list .last .0) (c .list .result) (from-carrier (start (first c)))
+room₂ c = room-then _ _ (room₁ (first c)) (c .list .ensures)
 
 slice-aggregate-put-word : tie.Need-slice-aggregate-put-word
 slice-aggregate-put-word c = search needs
@@ -20,14 +44,14 @@ slice-aggregate-put-word c = search needs
 put-word-requires : tie.Need-put-word-requires
 unfolding manyLine bytes
 put-word-requires c κs =
-    let start = c .before .before .before .before in
-    room-first _ (bytes "(many") (behind start) (start .pre)
+    let s = c .before .before .before .before in
+    room-first _ (bytes "(many") (behind s) (s .pre)
 
 list-requires : tie.Need-list-requires
 unfolding manyLine bytes
 list-requires c κs =
-    let start = c .before .before .before .before .before .before .before .before in
-    room-first _ (listText (start .args .question .now)) _ (room-then _ (behind start) (start .pre) (c .before .before .before .put-word .ensures))
+    let d = c .before .before .before in
+    room-first _ (listText (start d .args .question .now)) _ (room₁ d)
 
 slice-aggregate-put-word-number : tie.Need-slice-aggregate-put-word-number
 slice-aggregate-put-word-number c = search needs
@@ -35,9 +59,8 @@ slice-aggregate-put-word-number c = search needs
 put-word-number-requires : tie.Need-put-word-number-requires
 unfolding manyLine bytes
 put-word-number-requires c κs =
-    let start = c .before .before .before .before .before .before .before .before .before .before .before .before .before in
-    room-first _ (wordNumber (bytes " (carrier ") (start .args .carrier)) _
-    (room-then _ _ (room-then _ (behind start) (start .pre) (c .before .before .before .before .before .before .before .before .put-word .ensures)) (c .before .before .before .before .list .ensures))
+    let d = c .before .before .before .before in
+    room-first _ (wordNumber (bytes " (carrier ") (start (first d) .args .carrier)) _ (room₂ d)
 
 slice-aggregate-put-word-2 : tie.Need-slice-aggregate-put-word-2
 slice-aggregate-put-word-2 c = search needs
@@ -45,10 +68,8 @@ slice-aggregate-put-word-2 c = search needs
 put-word-requires-2 : tie.Need-put-word-requires-2
 unfolding manyLine bytes
 put-word-requires-2 c κs =
-    let start = c .before .before .before .before .before .before .before .before .before .before .before .before .before .before .before .before .before .before in
-    room-then _ (bytes "))\n")
-    (room-then _ _ (room-then _ (behind start) (start .pre) (c .before .before .before .before .before .before .before .before .before .before .before .before .before .put-word .ensures)) (c .before .before .before .before .before .before .before .before .before .list .ensures))
-    (c .before .before .before .before .put-word-number .ensures)
+    let d = c .before .before .before .before in
+    room-then _ (bytes "))\n") (room₂ (second d)) (d .put-word-number .ensures)
 
 same-length : tie.Need-same-length
 same-length c = search needs
@@ -56,12 +77,11 @@ same-length c = search needs
 returns : tie.Need-returns
 unfolding manyLine bytes
 returns c =
-    let first = c .before .before .before .before .before .before .before .before .before .before .before .before .before .before .before .before .put-word .ensures in
-    let second = c .before .before .before .before .before .before .before .before .before .before .before .before .list .ensures in
-    let start = c .before .before .before .before .before .before .before .before .before .before .before .before .before .before .before .before .before .before .before .before .before in
-    let room₁ = room-then _ (behind start) (start .pre) first in
-    let room₂ = room-then _ _ room₁ second in
-    puts-then _ _ (start .pre) first (puts-then _ _ room₁ second (puts-then _ _ room₂ (c .before .before .before .before .before .before .before .put-word-number .ensures) (c .before .before .put-word2 .ensures)))
+    let d = c .before .before .before .before .before .before .before in
+    let c₂ = second d in
+    let c₁ = first c₂ in
+    let end = puts-then _ _ (room₂ c₂) (d .put-word-number .ensures) (c .before .before .put-word2 .ensures) in
+    puts-then _ _ (start c₁ .pre) (c₁ .put-word .ensures) (puts-then _ _ (room₁ c₁) (c₂ .list .ensures) end)
 
 pub many-spec : {M : Type 1} → statement M
 many-spec =

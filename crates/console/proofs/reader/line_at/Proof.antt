@@ -30,7 +30,9 @@ same-length : tie.Need-same-length
 same-length c = search needs
 
 returns-2 : tie.Need-returns-2
-returns-2 c = takes-line (c .before .before .before .before .before .before .line-end .ensures) (c .before .before .before .before .before .if1 .left) (c .before .before .read .ensures)
+returns-2 c =
+    let d = c .before .before .before .before .before in
+    takes-line (d .before .line-end .ensures) (d .if1 .left) (c .before .before .read .ensures)
 
 pub line-at-spec : {M : Type 1} → statement M
 line-at-spec =

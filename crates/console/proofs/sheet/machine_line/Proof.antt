@@ -2,10 +2,14 @@
 -- Assumes nothing.
 use mathlib.Core.Path.{refl}
 use borrow.Author.Needs.{needs}
-use Rattle.console.specs.Read.{count}
+use Rattle.console.specs.Read.{machineCount}
 use Rattle.console.proofs.Taking.{start-unread, start-other, start-machine}
 use Rattle.console.proofs.sheet.machine_line.Statement.{statement}
 use Rattle.console.proofs.sheet.machine_line.Tie as tie
+
+-- the call that read a line, from the line that it read
+abbrev called : tie.After-reading → tie.After-next-line
+called c = c .before .before .before
 
 slice-aggregate-next-line : tie.Need-slice-aggregate-next-line
 slice-aggregate-next-line c = search needs
@@ -35,15 +39,22 @@ enum-told-3 : tie.Need-enum-told-3
 enum-told-3 c = search needs
 
 returns-2 : tie.Need-returns-2
-returns-2 c = start-machine (c .before .before .before .before .before .before .before .before .next-line .ensures) (c .before .before .before .before .before .reading .given .1) (c .before .before .line .given .1) (c .admit .ensures)
+returns-2 c =
+    let l = c .before .before in
+    let r = l .before .before .before in
+    start-machine (called r .next-line .ensures) (r .reading .given .1) (l .line .given .1) (c .admit .ensures)
 
 returns-3 : tie.Need-returns-3
-unfolding count
-returns-3 c = start-other (c .before .before .before .before .before .before .next-line .ensures) (c .before .before .before .reading .given .1) (c .enum-told2 .given .1) refl
+unfolding machineCount
+returns-3 c =
+    let r = c .before .before .before in
+    start-other (called r .next-line .ensures) (r .reading .given .1) (c .enum-told2 .given .1) refl
 
 returns-4 : tie.Need-returns-4
-unfolding count
-returns-4 c = start-other (c .before .before .before .before .before .before .next-line .ensures) (c .before .before .before .reading .given .1) (c .enum-told3 .given .1) refl
+unfolding machineCount
+returns-4 c =
+    let r = c .before .before .before in
+    start-other (called r .next-line .ensures) (r .reading .given .1) (c .enum-told3 .given .1) refl
 
 pub machine-line-spec : {M : Type 1} → statement M
 machine-line-spec =

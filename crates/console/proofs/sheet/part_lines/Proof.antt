@@ -36,7 +36,10 @@ same-length : tie.Need-same-length Inv-loop μ-loop
 same-length c = search needs
 
 returns : tie.Need-returns Inv-loop μ-loop
-returns c = entered-broken (c .before .before .before .before .before .before .loop .inv .0) (c .before .before .before .before .before .loop-test .taken) (c .before .before .before .part-line .ensures) (c .enum-told .given .1)
+returns c =
+    let c3 = c .before .before .before in
+    let c5 = c3 .before .before in
+    entered-broken (c5 .before .loop .inv .0) (c5 .loop-test .taken) (c3 .part-line .ensures) (c .enum-told .given .1)
 
 mul-parents : tie.Need-mul-parents Inv-loop μ-loop
 mul-parents c = search needs
@@ -51,7 +54,10 @@ loop-less : tie.Need-loop-less Inv-loop μ-loop
 loop-less c = search needs
 
 loop-again : tie.Need-loop-again Inv-loop μ-loop
-loop-again c = (entered-more (c .before .before .before .before .before .before .before .loop .inv .0) (c .before .before .before .before .before .before .loop-test .taken) (c .before .before .before .before .part-line .ensures) (c .before .p .given .1), search needs, search needs)
+loop-again c =
+    let c4 = c .before .before .before .before in
+    let c6 = c4 .before .before in
+    (entered-more (c6 .before .loop .inv .0) (c6 .loop-test .taken) (c4 .part-line .ensures) (c .before .p .given .1), search needs, search needs)
 
 same-length-2 : tie.Need-same-length-2 Inv-loop μ-loop
 same-length-2 c = search needs

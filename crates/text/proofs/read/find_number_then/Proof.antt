@@ -28,12 +28,14 @@ enum-told-2 c = search needs
 
 returns-2 : tie.Need-returns-2
 returns-2 c =
-    then-no-word _ _ (rw (c .before .before .before .before .n .given .1) at (c .before .before .before .before .before .before .find-number .ensures))
+    let n = c .before .before .before .before in
+    then-no-word _ _ (rw (n .n .given .1) at (n .before .before .find-number .ensures))
     (rw (c .enum-told2 .given .1) at (c .before .before .find-word .ensures))
 
 returns-3 : tie.Need-returns-3
 returns-3 c =
-    then-word _ _ (rw (c .before .before .before .before .before .n .given .1) at (c .before .before .before .before .before .before .before .find-number .ensures))
+    let n = c .before .before .before .before .before in
+    then-word _ _ (rw (n .n .given .1) at (n .before .before .find-number .ensures))
     (rw (c .before .next .given .1) at (c .before .before .before .find-word .ensures))
 
 pub find-number-then-spec : {M : Type 1} → statement M

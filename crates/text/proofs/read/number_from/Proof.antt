@@ -29,7 +29,9 @@ is-digit-requires : tie.Need-is-digit-requires Inv-loop μ-loop
 is-digit-requires c κs = search needs
 
 returns : tie.Need-returns Inv-loop μ-loop
-returns c = reading-stop (c .before .before .before .before .loop .inv) (c .before .before .before .loop-test .taken) (sym (c .before .is-digit .ensures) ∙ not-true _ (c .if1 .taken))
+returns c =
+    let d = c .before .before .before in
+    reading-stop (d .before .loop .inv) (d .loop-test .taken) (sym (c .before .is-digit .ensures) ∙ not-true _ (c .if1 .taken))
 
 cast-next : tie.Need-cast-next Inv-loop μ-loop
 cast-next c = omega arith
@@ -38,7 +40,8 @@ mul-next : tie.Need-mul-next Inv-loop μ-loop
 mul-next c = search needs
 
 -- the byte is a digit
-digit-here : (c : tie.Else1 Inv-loop μ-loop) → isDigit (getD (c .before .before .before .before .before .before .args .bytes .now) (c .before .before .before .before .loop .i) 0) ≡ true
+digit-here : (c : tie.Else1 Inv-loop μ-loop)
+    → let t = c .before .before .before .before in isDigit (getD (t .before .before .args .bytes .now) (t .loop .i) 0) ≡ true
 digit-here c = sym (c .before .is-digit .ensures) ∙ not-false _ (c .if1 .left)
 
 value-requires : tie.Need-value-requires Inv-loop μ-loop
@@ -51,7 +54,10 @@ add-next : tie.Need-add-next Inv-loop μ-loop
 add-next c = omega (arith, c .value .ok)
 
 returns-2 : tie.Need-returns-2 Inv-loop μ-loop
-returns-2 c = reading-large (c .before .before .before .before .before .before .loop .inv) (c .before .before .before .before .before .loop-test .taken) (digit-here (c .before .before)) (c .before .value .ensures) (c .if2 .taken)
+returns-2 c =
+    let e = c .before .before in
+    let d = e .before .before .before in
+    reading-large (d .before .loop .inv) (d .loop-test .taken) (digit-here e) (c .before .value .ensures) (c .if2 .taken)
 
 cast-v : tie.Need-cast-v Inv-loop μ-loop
 cast-v c = omega arith
@@ -63,7 +69,10 @@ loop-less : tie.Need-loop-less Inv-loop μ-loop
 loop-less c = search needs
 
 loop-again : tie.Need-loop-again Inv-loop μ-loop
-loop-again c = reading-more (c .before .before .before .before .before .before .loop .inv) (c .before .before .before .before .before .loop-test .taken) (digit-here (c .before .before)) (c .before .value .ensures) (c .if2 .left)
+loop-again c =
+    let e = c .before .before in
+    let d = e .before .before .before in
+    reading-more (d .before .loop .inv) (d .loop-test .taken) (digit-here e) (c .before .value .ensures) (c .if2 .left)
 
 returns-3 : tie.Need-returns-3 Inv-loop μ-loop
 returns-3 c = reading-end (c .before .loop .inv) (c .loop-test .left)

@@ -30,7 +30,10 @@ put-decimal-put-decimal-requires : (t : ℕ) → put-decimal-lts.Need-put-decima
   put-decimal-below t,
   put-decimal.Post,
 ) (put-decimal-at t) put-decimal.Post
-put-decimal-put-decimal-requires t c κs = (omega (arith, c .before .before .before .pre .0), room-tens _ _ (c .before .if1 .taken) (c .before .before .before .pre .1))
+put-decimal-put-decimal-requires t c κs =
+    let d = c .before in
+    let (same, room) = d .before .before .pre in
+    (omega (arith, same), room-tens _ _ (d .if1 .taken) room)
 
 begun : (t : ℕ) (c : put-decimal-lts.Joined1 (put-decimal-below t, put-decimal.Post) (put-decimal-at t) put-decimal.Post)
     → Begun (c .before .before .args .out .now) (c .before .before .args .at) (c .before .before .args .n) (c .if1 .out) (c .if1 .end)

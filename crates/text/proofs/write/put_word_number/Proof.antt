@@ -14,7 +14,9 @@ put-word-requires c κs =
 
 put-decimal-requires : tie.Need-put-decimal-requires
 unfolding wordNumber
-put-decimal-requires c κs = room-then _ _ (c .before .before .before .before .before .before .before .pre) (c .before .before .before .put-word .ensures)
+put-decimal-requires c κs =
+    let w = c .before .before .before in
+    room-then _ _ (w .before .before .before .before .pre) (w .put-word .ensures)
 
 same-length : tie.Need-same-length
 same-length c = search needs
@@ -22,9 +24,8 @@ same-length c = search needs
 returns : tie.Need-returns
 unfolding wordNumber
 returns c =
-    puts-then _ _ (c .before .before .before .before .before .before .before .before .before .before .pre)
-    (c .before .before .before .before .before .before .put-word .ensures)
-    (c .before .before .put-decimal .ensures)
+    let w = c .before .before .before .before .before .before in
+    puts-then _ _ (w .before .before .before .before .pre) (w .put-word .ensures) (c .before .before .put-decimal .ensures)
 
 pub put-word-number-spec : {M : Type 1} → statement M
 put-word-number-spec =

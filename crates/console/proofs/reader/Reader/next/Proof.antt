@@ -1,7 +1,8 @@
--- `console::reader::Reader::next` meets its contract: a walk of its MIR, by hand, after the toolchain's `reader::skip`, `reader::next` and `writer::put`. The borrow of the struct is opened, the struct is taken apart,
--- and `line_at` is called on the input and the position; the new position is stored, and the borrow is closed. All that the proof knows of `line_at` is that it meets its contract.
--- The struct is Copy: what it owns is had twice, one copy is kept, and of the other what the input owns goes to the callee. `beside` goes there too, at its own lifetime, share and name: what `line_at` says of its last
--- list is what `next` says of it.
+-- `console::reader::Reader::next` meets its contract: a walk of its MIR, by hand, after the toolchain's `reader::skip`, `reader::next` and
+-- `writer::put`. The borrow of the struct is opened, the struct is taken apart, and `line_at` is called on the input and the position; the new
+-- position is stored, and the borrow is closed. All that the proof knows of `line_at` is that it meets its contract.
+-- The struct is Copy: what it owns is had twice, one copy is kept, and of the other what the input owns goes to the callee. `beside` goes there too,
+-- at its own lifetime, share and name: what `line_at` says of its last list is what `next` says of it.
 -- Assumes nothing.
 use mathlib.Core.Path.{_≡_, refl, ap}
 use Prim.Native.Nat.{ℕ, _<_, _≤_, _^_}
@@ -20,9 +21,11 @@ use ghost.Atoms.{Atoms, sem}
 use contract.Lifetimes.{Lfts, AllOutlive}
 use contract.Monad.{Fun, fact}
 use contract.Running.{givenOf, tables, tablesOf}
-use types.Kit.{Given, Item, ‵, raw, _⊛_, given, ⋆, some, later, _$_, _∵_, !, qed, by, move, keep, drop, use1, use2, use3, rewrite, split, join, learn, pick, fsplit, fsplit3, fjoin, fjoin3, feqL, feqI, suffices, frame, await, done}
+use types.Kit.{Given, Item, ‵, raw, _⊛_, given, ⋆, some, later, _$_, _∵_, !, qed, by, move, keep, drop, use1}
+use types.Kit.{use2, use3, rewrite, split, join, learn, pick, fsplit, fsplit3, fjoin, fjoin3, feqL, feqI, suffices, frame, await, done}
 use types.Part.{agg, whole, sub, look-in, store-in}
-use types.Run.{look, init, forget, stop, hop, fld, from, load, addr, of-opd, and-then, no-more, assigns, land, returns, enter, alloc1, alloc0, params1, pass1, pass0, free1, free0}
+use types.Run.{look, init, forget, stop, hop, fld, from, load, addr, of-opd, and-then, no-more}
+use types.Run.{assigns, land, returns, enter, alloc1, alloc0, params1, pass1, pass0, free1, free0}
 use types.SemTy.{Body}
 use sound.WpLaws.{FmC, fmOf, WpFn-mono}
 use denote.RattleType.{RattleType, owns}
@@ -162,29 +165,37 @@ module _ {M : Type 1} (𝓤 : URA M) (H : Heap 𝓤) (A : Atoms 𝓤) (W : Given
   asked g = qed W (Tokens ∷ ‵ (owns (ShrSlice (named 0) κ′ u8 ∷ usize ∷ MutSlice (named 1) κ″ u16 ∷ []) args passed) ∷ []) ∵ says ! g $ frame ! $ done !
 
   -- what the struct and `beside` own gives what the callee asks, and what the struct owns is kept
-  apart : Fits → h .at < 2 ^ 64 → ent 𝓤 (⋆ 𝓤 H A (‵ (Own h) ∷ Tokens ∷ ‵ (owns (MutSlice (named 2) κ″ u16 ∷ []) (y, tt) (w ∷ [], tt)) ∷ [])) (sep 𝓤 Asks (sem 𝓤 H A (Own h)))
+  apart : Fits → h .at < 2 ^ 64 → ent 𝓤 (⋆ 𝓤 H A (‵ (Own h) ∷ Tokens ∷ ‵ (owns (MutSlice (named 2) κ″ u16 ∷ []) (y, tt) (w ∷ [], tt)) ∷ []))
+      (sep 𝓤 Asks (sem 𝓤 H A (Own h)))
   apart g fits =
       qed W (‵ (Own h) ∷ Tokens ∷ ‵ (owns (MutSlice (named 2) κ″ u16 ∷ []) (y, tt) (w ∷ [], tt)) ∷ []) ∵
       use1 W (‵ (Own h) ⊛ ‵ (Own h)) (LL.copy (T.the-type α) (T′.the-copy α) 𝓤 H A W .twice h (T′.lowered h ∷ [])) $ split ! $
-      use1 W (given (T′.lowered h ∷ [] ≡ T′.lowered h ∷ []) (‵ (all-own (T.the-type α .parts) (T′.the-laws α) vd))) (own-open 𝓤 H A W (T.the-type α) (T′.the-laws α) vd (T′.lowered h)) $ learn ! (λ _.
-      use1 W (‵ (ownAt (T.the-type α .parts) (T′.the-laws α) 0 (h .input)) ⊛ ‵ (rest (T.the-type α .parts) (T′.the-laws α) 0 vd)) (own-out 𝓤 H A W (T.the-type α .parts) (T′.the-laws α) 0 vd) $ split ! $
+      use1 W (given (T′.lowered h ∷ [] ≡ T′.lowered h ∷ []) (‵ (all-own (T.the-type α .parts) (T′.the-laws α) vd)))
+      (own-open 𝓤 H A W (T.the-type α) (T′.the-laws α) vd (T′.lowered h)) $ learn ! (λ _.
+      use1 W (‵ (ownAt (T.the-type α .parts) (T′.the-laws α) 0 (h .input)) ⊛ ‵ (rest (T.the-type α .parts) (T′.the-laws α) 0 vd))
+      (own-out 𝓤 H A W (T.the-type α .parts) (T′.the-laws α) 0 vd) $ split ! $
       -- [what the input owns; what the position owns; what the struct owns; the tokens; what `beside` owns]
-      move ! (1 ∷ []) $ drop ! $ move ! (3 ∷ []) $ owned ! usize (Is usize) (uint-makes 𝓤 H A W w64) (h .at) _ (refl, fits) $ fjoin ! $ move ! (1 ∷ 0 ∷ []) $ fjoin ! $
+      move ! (1 ∷ []) $ drop ! $ move ! (3 ∷ []) $ owned ! usize (Is usize) (uint-makes 𝓤 H A W w64) (h .at) _ (refl, fits) $ fjoin ! $ move ! (1 ∷ 0 ∷ []) $
+      fjoin ! $
       move ! (2 ∷ 0 ∷ []) $ use2 W (raw Asks) (asked g) $ frame ! $ done !)
 
   -- what the input owns is kept, and the position's facts are made anew
   again : (n : ℕ) → n < 2 ^ 64 → ent 𝓤 (sem 𝓤 H A (Own h)) (sem 𝓤 H A (Own (moved n)))
-  again n fits = qed W (‵ (Own h) ∷ []) ∵ owned ! usize (Is usize) (uint-makes 𝓤 H A W w64) n _ (refl, fits) $ move ! (1 ∷ 0 ∷ []) $ by ! (own-put 𝓤 H A W (T.the-type α) (T′.the-laws α) 1 vd n (T′.lowered h))
+  again n fits =
+      qed W (‵ (Own h) ∷ []) ∵ owned ! usize (Is usize) (uint-makes 𝓤 H A W w64) n _ (refl, fits) $ move ! (1 ∷ 0 ∷ []) $
+      by ! (own-put 𝓤 H A W (T.the-type α) (T′.the-laws α) 1 vd n (T′.lowered h))
 
   -- the machine value of the line that was taken
   abbrev rv : Next → Val
   rv t = EL.val R.the-type R′.the-laws (t .line)
 
   exits : (t : Next) (zs : List ℕ) → Gives zs t → length zs ≡ length ys → Is R.the-row (t .line) (rv t ∷ [])
-      → ent 𝓤 (⋆ 𝓤 H A (‵ (fobs γ (B .coded .code (moved (t .end)))) ∷ ‵ (fbor κ (Body (mem B) b o γ)) ∷ ‵ (flft κ q) ∷ Tokens ∷ ‵ (finally u16 γ′ zs) ∷ [])) (Post (rv t))
+      → ent 𝓤 (⋆ 𝓤 H A (‵ (fobs γ (B .coded .code (moved (t .end)))) ∷ ‵ (fbor κ (Body (mem B) b o γ)) ∷ ‵ (flft κ q) ∷ Tokens ∷ ‵ (finally u16 γ′ zs) ∷ []))
+      (Post (rv t))
   exits t zs e l is =
       qed W (‵ (fobs γ (B .coded .code (moved (t .end)))) ∷ ‵ (fbor κ (Body (mem B) b o γ)) ∷ ‵ (flft κ q) ∷ Tokens ∷ ‵ (finally u16 γ′ zs) ∷ []) ∵
-      suffices ! _ (ends-at 𝓤 H A next.ended stayed (next.clauses 𝓤 H A at-mem run) W ((κs, qs, bounds, (x, (y, tt)), vals), tt) (rv t) (t .line) (moved (t .end), (zs, tt)) (tt, (l, tt))) $ says ! (refl, e) $
+      suffices ! _ (ends-at 𝓤 H A next.ended stayed (next.clauses 𝓤 H A at-mem run) W ((κs, qs, bounds, (x, (y, tt)), vals), tt) (rv t) (t .line)
+      (moved (t .end), (zs, tt)) (tt, (l, tt))) $ says ! (refl, e) $
       move ! (2 ∷ 3 ∷ []) $ join ! $ frame ! $ feqI ! (List Val) (vptr b o ∷ []) (vptr b o ∷ []) refl $ fjoin3 ! $
       nothing ! $ move ! (2 ∷ 0 ∷ []) $ fjoin ! $ move ! (1 ∷ 0 ∷ []) $ fjoin ! $
       owned ! R.the-row (Is R.the-row) (EL.makes R.the-type R′.the-plain 𝓤 H A) (t .line) _ is $ move ! (1 ∷ 0 ∷ []) $ done !
@@ -192,47 +203,62 @@ module _ {M : Type 1} (𝓤 : URA M) (H : Heap 𝓤) (A : Atoms 𝓤) (W : Given
   module _ (C : Calls 𝓤 H) (Λ : Loops 𝓤 H) (fm : FmC 𝓤 H (W .laws) C) (known : Triple 𝓤 (C #line-at) (LineAt 𝓤 H A at-mem run)) where
     walk : Room u16 (length ys) → Fits → ent 𝓤 Begins (WpFn 𝓤 H C Λ code.function (vptr b o ∷ w ∷ []) Post)
     walk room g =
-        qed W ((‵ (flft κ q) ⊛ Tokens) ∷ ‵ (owns (MutRef (named 0) κ B ∷ MutSlice (named 2) κ″ u16 ∷ []) (x, (y, tt)) vals) ∷ []) ∵ enter ! C Λ code.function (vptr b o ∷ w ∷ []) _ $
+        qed W ((‵ (flft κ q) ⊛ Tokens) ∷ ‵ (owns (MutRef (named 0) κ B ∷ MutSlice (named 2) κ″ u16 ∷ []) (x, (y, tt)) vals) ∷ []) ∵
+        enter ! C Λ code.function (vptr b o ∷ w ∷ []) _ $
         alloc1 ! (λ l₀. alloc1 ! (λ l₁. alloc1 ! (λ l₂. alloc1 ! (λ l₃. alloc1 ! (λ l₄. alloc1 ! (λ l₅. alloc1 ! (λ l₆. alloc1 ! (λ l₇. alloc0 ! $ params1 ! $
         pass1 ! (init ! 12 refl (tt, tt)) $ pass1 ! (init ! 10 refl (tt, (tt, (record { fits = room .0 }, tt)))) $ pass0 ! $
         -- the borrow is opened
         move ! (17 ∷ []) $ fsplit ! $ fsplit3 ! $ drop ! $ move ! (19 ∷ []) $ split ! $ move ! (2 ∷ 3 ∷ 0 ∷ []) $
-        opens ! tt B {h = h} b o (λ vs. spelt ! B (Is B) (shows 𝓤 H A B) (LL.vals (T.the-type α) (T′.the-laws α)) (LL.tells (T.the-type α) (T′.the-laws α)) fullShare h vs b o $
+        opens ! tt B {h = h} b o (λ vs.
+        spelt ! B (Is B) (shows 𝓤 H A B) (LL.vals (T.the-type α) (T′.the-laws α)) (LL.tells (T.the-type α) (T′.the-laws α)) fullShare h vs b o $
         use1 W (‵ (fat fullShare (T′.mir erased) b o (T′.lowered h))) (W .laws .raw-at fullShare (T′.mir erased) b o (T′.lowered h)) $
         move ! (1 ∷ []) $ peeks ! B (Is B) (shows 𝓤 H A B) h (T′.lowered h ∷ []) (λ was. move ! (1 ∷ 0 ∷ []) $
-        -- [the struct's cell; what it owns; the open borrow; obs; auth; the tokens; what `beside` owns; _7; …; _6; …; _5; …; _4; …; _3; …; _2; …; _1; …; room for _0; …]
+        -- [the struct's cell; what it owns; the open borrow; obs; auth; the tokens; what `beside` owns; _7; …; _6; …; _5; …; _4; …; _3; …; _2; …; _1;
+        -- …; room for _0; …]
         (let wt = LL.lawful (T.the-type α) (T′.the-laws α) 𝓤 H A W .typed h _ was .0 in
-        assigns ! (of-opd ! (load ! (from ! (hop ! (look ! 19 refl) (fld ! {τ = inputTy} {d = 0} refl (stop !)))) (look-in ! 0 (sub ! 0 {τ = inputTy} {d = 0} refl (whole !))))) (from ! (stop !))
+        assigns ! (of-opd ! (load ! (from ! (hop ! (look ! 19 refl) (fld ! {τ = inputTy} {d = 0} refl (stop !))))
+        (look-in ! 0 (sub ! 0 {τ = inputTy} {d = 0} refl (whole !))))) (from ! (stop !))
         (init ! 13 refl (tt, wt .1 .0)) $
-        assigns ! (of-opd ! (load ! (from ! (hop ! (look ! 19 refl) (fld ! {τ = tyInt w64} {d = 16} refl (stop !)))) (look-in ! 0 (sub ! 1 {τ = tyInt w64} {d = 16} refl (whole !))))) (from ! (stop !))
+        assigns ! (of-opd ! (load ! (from ! (hop ! (look ! 19 refl) (fld ! {τ = tyInt w64} {d = 16} refl (stop !))))
+        (look-in ! 0 (sub ! 1 {τ = tyInt w64} {d = 16} refl (whole !))))) (from ! (stop !))
         (init ! 11 refl (tt, wt .1 .1 .0)) $
         assigns ! (addr ! (from ! (fld ! refl (hop ! (look-in ! 17 (sub ! 0 refl (whole !))) (stop !))))) (from ! (stop !)) (init ! 9 refl (tt, tt)) $
-        assigns ! (agg ! (and-then ! (load ! (from ! (stop !)) (look ! 9 refl)) (and-then ! (load ! (from ! (fld ! refl (stop !))) (look-in ! 17 (sub ! 1 refl (whole !)))) (no-more !)))) (from ! (stop !))
+        assigns ! (agg ! (and-then ! (load ! (from ! (stop !)) (look ! 9 refl))
+        (and-then ! (load ! (from ! (fld ! refl (stop !))) (look-in ! 17 (sub ! 1 refl (whole !)))) (no-more !)))) (from ! (stop !))
         (init ! 7 refl (tt, (tt, (record { fits = room .0 }, tt)))) $
         move ! (1 ∷ 5 ∷ 6 ∷ []) $ use3 W (raw Asks ⊛ ‵ (Own h)) (apart g (wt .1 .1 .0 .fits)) $ split ! $
         -- [what is asked; what the struct owns; its cell; the open borrow; obs; auth; _7; …]
         calls-at ! fm (LineAt 𝓤 H A at-mem run) known to
-        (and-then ! (load ! (from ! (stop !)) (look ! 12 refl)) (and-then ! (load ! (from ! (stop !)) (look ! 10 refl)) (and-then ! (load ! (from ! (stop !)) (look ! 6 refl)) (no-more !)))) (λ u.
-        use1 W (later (some (λ (t : Next). (Tokens ⊛ ‵ (S.the-row .own t (u ∷ []))) ⊛ raw (Ensures t)))) (id⊢ 𝓤 _) $ await ! tt $ pick ! (λ t. split ! $ move ! (1 ∷ []) $
+        (and-then ! (load ! (from ! (stop !)) (look ! 12 refl))
+        (and-then ! (load ! (from ! (stop !)) (look ! 10 refl)) (and-then ! (load ! (from ! (stop !)) (look ! 6 refl)) (no-more !)))) (λ u.
+        use1 W (later (some (λ (t : Next). (Tokens ⊛ ‵ (S.the-row .own t (u ∷ []))) ⊛ raw (Ensures t)))) (id⊢ 𝓤 _) $ await ! tt $ pick ! (λ t. split ! $
+        move ! (1 ∷ []) $
         -- what `line_at` ensures, at some last list
-        use1 W (some (λ (zs : Unit {0} × (Unit {0} × (List ℕ × Unit {0}))). ‵ (lasts line-at.ended (κ′, (κ″, tt)) args zs) ⊛ raw (fact 𝓤 (Gives (zs .1 .1 .0) t)))) (id⊢ 𝓤 _) $ pick ! (λ zs. split ! $ move ! (1 ∷ []) $
-        heard ! (Gives (zs .1 .1 .0) t) (λ e. fsplit ! $ drop ! $ fsplit ! $ drop ! $ fsplit ! $ fsplit ! $ move ! (1 ∷ []) $ feqL ! (λ l. move ! (2 ∷ []) $ split ! $ move ! (1 ∷ []) $
+        use1 W (some (λ (zs : Unit {0} × (Unit {0} × (List ℕ × Unit {0}))). ‵ (lasts line-at.ended (κ′, (κ″, tt)) args zs)
+        ⊛ raw (fact 𝓤 (Gives (zs .1 .1 .0) t)))) (id⊢ 𝓤 _) $ pick ! (λ zs. split ! $ move ! (1 ∷ []) $
+        heard ! (Gives (zs .1 .1 .0) t) (λ e. fsplit ! $ drop ! $ fsplit ! $ drop ! $ fsplit ! $ fsplit ! $ move ! (1 ∷ []) $ feqL ! (λ l. move ! (2 ∷ []) $
+        split ! $ move ! (1 ∷ []) $
         -- [what was taken; the tokens; the last list; true; what the struct owns; its cell; the open borrow; obs; auth; _7; …]
         peeks ! S.the-row (Is S.the-row) (shows 𝓤 H A S.the-row) t (u ∷ []) (λ is.
         land ! (from ! (stop !)) (init ! 17 refl (LL.lawful S.the-type S′.the-laws 𝓤 H A W .typed t _ is .0)) $
         (let fields = LL.owed S.the-type S′.the-laws t _ is in
         rewrite ! 17 (λ (z : Val). ‵ (fat fullShare S′.mir l₃ 0 z)) (ap only (LL.tells S.the-type S′.the-laws t _ is)) refl $
         assigns ! (of-opd ! (load ! (from ! (fld ! {τ = tyInt w64} {d = 32} refl (stop !))) (look-in ! 17 (sub ! 1 {τ = tyInt w64} {d = 32} refl (whole !)))))
-        (from ! (hop ! (look ! 21 refl) (fld ! {τ = tyInt w64} {d = 16} refl (stop !)))) (store-in ! 5 (sub ! 1 {τ = tyInt w64} {d = 16} refl (whole !)) (tt, record { fits = fields .1 .0 .1 })) $
-        assigns ! (of-opd ! (load ! (from ! (fld ! {τ = R′.mir} {d = 0} refl (stop !))) (look-in ! 17 (sub ! 0 {τ = R′.mir} {d = 0} refl (whole !))))) (from ! (stop !))
+        (from ! (hop ! (look ! 21 refl) (fld ! {τ = tyInt w64} {d = 16} refl (stop !))))
+        (store-in ! 5 (sub ! 1 {τ = tyInt w64} {d = 16} refl (whole !)) (tt, record { fits = fields .1 .0 .1 })) $
+        assigns ! (of-opd ! (load ! (from ! (fld ! {τ = R′.mir} {d = 0} refl (stop !))) (look-in ! 17 (sub ! 0 {τ = R′.mir} {d = 0} refl (whole !)))))
+        (from ! (stop !))
         (init ! 23 refl (EL.lawful R.the-type R′.the-laws 𝓤 H A W tt .typed (t .line) _ (fields .0) .0)) $
         -- the struct is put together again, and the borrow is closed
         move ! (4 ∷ []) $ use1 W (‵ (Own (moved (t .end)))) (again (t .end) (fields .1 .0 .1)) $
-        move ! (5 ∷ []) $ use1 W (‵ (cellAt fullShare (B .mir) (T′.lowered (moved (t .end)) ∷ []) b o)) (W .laws .at-raw fullShare (T′.mir erased) b o (T′.lowered (moved (t .end)))) $
+        move ! (5 ∷ []) $ use1 W (‵ (cellAt fullShare (B .mir) (T′.lowered (moved (t .end)) ∷ []) b o))
+        (W .laws .at-raw fullShare (T′.mir erased) b o (T′.lowered (moved (t .end)))) $
         move ! (0 ∷ 1 ∷ 6 ∷ 7 ∷ 8 ∷ []) $ closes ! tt B (moved (t .end)) (T′.lowered (moved (t .end)) ∷ []) b o $
         -- [obs; the borrow; its token; what was taken; the tokens; the last list; true; _7; …]
-        returns ! (look ! 21 refl) $ forget ! 7 refl $ forget ! 9 refl $ forget ! 11 refl $ forget ! 13 refl $ forget ! 15 refl $ forget ! 17 refl $ forget ! 19 refl $ forget ! 21 refl $
-        move ! (21 ∷ 22 ∷ []) $ free1 ! $ move ! (19 ∷ 20 ∷ []) $ free1 ! $ move ! (17 ∷ 18 ∷ []) $ free1 ! $ move ! (15 ∷ 16 ∷ []) $ free1 ! $ move ! (13 ∷ 14 ∷ []) $ free1 ! $
+        returns ! (look ! 21 refl) $ forget ! 7 refl $ forget ! 9 refl $ forget ! 11 refl $ forget ! 13 refl $ forget ! 15 refl $ forget ! 17 refl $
+        forget ! 19 refl $ forget ! 21 refl $
+        move ! (21 ∷ 22 ∷ []) $ free1 ! $ move ! (19 ∷ 20 ∷ []) $ free1 ! $ move ! (17 ∷ 18 ∷ []) $ free1 ! $ move ! (15 ∷ 16 ∷ []) $ free1 ! $
+        move ! (13 ∷ 14 ∷ []) $ free1 ! $
         move ! (11 ∷ 12 ∷ []) $ free1 ! $ move ! (9 ∷ 10 ∷ []) $ free1 ! $ move ! (7 ∷ 8 ∷ []) $ free1 ! $ free0 ! $
         keep ! (0 ∷ 1 ∷ 2 ∷ 4 ∷ 5 ∷ []) $ by ! (exits t (zs .1 .1 .0) e l (fields .0))))))))))))))))))))
 
@@ -240,12 +266,16 @@ module _ {M : Type 1} (𝓤 : URA M) (H : Heap 𝓤) (A : Atoms 𝓤) (W : Given
   next-walks : (C : Calls 𝓤 H) (Λ : Loops 𝓤 H) → FmC 𝓤 H (W .laws) C → Triple 𝓤 (C #line-at) (LineAt 𝓤 H A mem run)
       → Walks 𝓤 H A next.ended stayed (WpFn 𝓤 H C Λ code.function) (next.clauses 𝓤 H A mem run)
   next-walks C Λ fm known = walked 𝓤 H A next.ended stayed (next.clauses 𝓤 H A mem run) (WpFn 𝓤 H C Λ code.function)
-      (λ κs. (ptr-vals, (slice-vals, tt))) (λ κs. (mut-tells (named 0) (κs .0) (T.the-row (namedLft 3 1 tt κs)), (mut-slice-tells (named 2) (κs .1 .1 .0) u16, tt)))
+      (λ κs. (ptr-vals, (slice-vals, tt))) (λ κs. (
+        mut-tells (named 0) (κs .0) (T.the-row (namedLft 3 1 tt κs)),
+        (mut-slice-tells (named 2) (κs .1 .1 .0) u16, tt),
+      ))
       (λ κs qs bounds a _ are. needs 𝓤 _ _
       (walk 𝓤 H A W mem run (κs .0) (κs .1 .0) (κs .1 .1 .0) (qs .0) (qs .1 .0) (qs .1 .1 .0) bounds (a .0 .ptr .0) (a .0 .ptr .1) (a .0 .name) (a .0 .now)
       (a .1 .0 .ptr .0) (a .1 .0 .ptr .1) (a .1 .0 .name) (a .1 .0 .now) C Λ fm known (are .1 .0 .0 .1)))
 
-next-meets : {M : Type 1} (𝓤 : URA M) (H : Heap 𝓤) (A : Atoms 𝓤) → Given 𝓤 H A → (mem : Memory → SProp 𝓤) (run : Routine → Fun 𝓤) (𝓣 : Tables 𝓤 H) → Triple 𝓤 (𝓣 .C #line-at) (LineAt 𝓤 H A mem run)
+next-meets : {M : Type 1} (𝓤 : URA M) (H : Heap 𝓤) (A : Atoms 𝓤) → Given 𝓤 H A → (mem : Memory → SProp 𝓤) (run : Routine → Fun 𝓤) (𝓣 : Tables 𝓤 H)
+    → Triple 𝓤 (𝓣 .C #line-at) (LineAt 𝓤 H A mem run)
     → Meets 𝓤 H A next.signature (WpFn 𝓤 H (𝓣 .C) (𝓣 .Λ) code.function) (next.spec 𝓤 H A mem run)
 next-meets 𝓤 H A W mem run 𝓣 known =
     walk-meets 𝓤 H A next.ended stayed W (goes-ref 𝓤 H A W 3 0 tt behind, (goes-gave-slice 𝓤 H A W 3 2 tt (plain (λ _. u16)), tt)) (next.clauses 𝓤 H A mem run)
