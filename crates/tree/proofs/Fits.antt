@@ -100,12 +100,10 @@ lower-further a b h =
 
 -- where none is named, neither names one
 pub lower-none : (a b : ℕ) → lowerUnfit a b ≡ 0 → (a ≡ 0) × (b ≡ 0)
-lower-none a b h =
-    by-equal b 0 (λ q. (rw (eq-eqb b 0 q) at h, q))
-    (λ q.
-    by-equal a 0 (λ e. absurd (q (sym (lower-second a b e) ∙ h)))
-    (λ e.
-    by-test (ltb b a) (λ l. absurd (q (rw (ne-eqb b 0 q, ne-eqb a 0 e, l) at h))) (λ l. absurd (e (rw (ne-eqb b 0 q, ne-eqb a 0 e, l) at h)))))
+lower-none a b h = (
+  by-equal a 0 (λ e. e) (λ q. let named = lower-first a b (pos-of-ne-zero q) .0 in absurd (omega arith)),
+  by-equal b 0 (λ e. e) (λ q. let named = lower-further a b (pos-of-ne-zero q) .0 in absurd (omega arith)),
+)
 
 -- ---- the buffers of each kind of call
 

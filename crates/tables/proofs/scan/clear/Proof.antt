@@ -1,0 +1,17 @@
+-- `tables::scan::clear` meets its contract: every cell is filled with 0.
+-- Assumes nothing.
+use borrow.Author.Needs.{needs}
+use Rattle.tables.proofs.scan.clear.Statement.{statement}
+use Rattle.tables.proofs.scan.clear.Tie as tie
+
+fill-all-requires : tie.Need-fill-all-requires
+fill-all-requires c κs = search needs
+
+same-length : tie.Need-same-length
+same-length c = search needs
+
+returns : tie.Need-returns
+returns c = c .before .before .fill-all .ensures
+
+pub clear-spec : {M : Type 1} → statement M
+clear-spec = tie.close (tie.spec fill-all-requires same-length returns)
