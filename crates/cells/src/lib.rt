@@ -28,6 +28,13 @@ pub fn fill_all(cells: &mut [u16], value: u16)
     fill(cells, 0, n, value);
 }
 
+// Fills a buffer with zeros.
+pub fn clear(buffer: &mut [u16])
+    ensures { λ _. ⌜ now (buffer .exit) ≡ replicate (length (now (buffer .entry))) 0 ⌝ }
+{
+    fill_all(buffer, 0);
+}
+
 // Copies the `count` cells of `from` from `start` on to `to`, from `at` on.
 pub fn copy(to: &mut [u16], at: usize, from: &[u16], start: usize, count: usize)
     requires { ⌜ (at + count ≤ length (now to)) × (start + count ≤ length (now from)) ⌝ }

@@ -1,5 +1,4 @@
 -- Laws about this crate's loops, and what is shown of its calls. Assumes nothing.
-pub mod Jumping
 pub mod Sections
 pub mod Powers
 pub mod Rowwise

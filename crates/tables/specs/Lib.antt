@@ -1,4 +1,3 @@
 pub mod Check
-pub mod Jumps
 pub mod Lend
 pub mod Sections

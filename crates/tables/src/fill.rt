@@ -1,7 +1,6 @@
 // Filling the three tables of an accepted sheet, section by section: each is made in work and copied out, but for the rows of the tour table after the first,
 // which are filled straight into the table.
 
-use crate::scan;
 ghost use mathlib.Core.Path.{_≡_};
 ghost use Prim.Native.Nat.{_+_};
 ghost use lib.ListN.{length};
@@ -27,7 +26,7 @@ pub(crate) fn tables(
     self::label(parents, label, work);
     self::tour(parents, label, tour, work);
     self::lift(parents, lift, work);
-    scan::clear(work);
+    cells::clear(work);
 }
 
 // The label table: PREORDER and SIZE together, then column by column.
@@ -36,7 +35,7 @@ pub(crate) fn label(parents: &[u16], table: &mut [u16], work: &mut [u16])
     ensures { λ _. ⌜ now (table .exit) ≡ labelTable (now (parents .entry)) ⌝ }
 {
     let n = parents.len();
-    let root = scan::root(parents);
+    let root = rooted::root(parents);
     labels::numbers(parents, root, work);
     cells::copy(table, 0, work, 2 * n, 2 * n);
     let mut k = 2;

@@ -3,8 +3,6 @@
 
 mod fill;
 mod fits;
-mod jumps;
-mod scan;
 mod stale;
 
 use tree::Outcome;
@@ -13,14 +11,12 @@ ghost use mathlib.Core.Path.{_≡_};
 ghost use Prim.Native.Nat.{_≤_, _<_};
 ghost use lib.ListN.{length};
 ghost use Rattle.tree.specs.Tree.{rootOf};
-ghost use Rattle.tree.specs.Verdict.{verdictOf};
-ghost use Rattle.tree.specs.Tests.{verdict, limit, treeTests};
+ghost use Rattle.tree.specs.Tests.{limit};
 ghost use Rattle.tree.specs.Buffers.{workCells};
 ghost use Rattle.tree.specs.Tables.{lentBy};
 ghost use Rattle.tree.specs.Ready.{Ready, NumbersIn};
 ghost use Rattle.tables.specs.Check.{Tested, SheetGives, CheckGives};
 ghost use Rattle.tables.specs.Lend.{BuildGives, LentGives};
-ghost use Rattle.tables.specs.Jumps.{Roomy};
 
 // Checks the sheet `parents`: accepted if it is one rooted tree of at most 16,384 parts, else refused with document 01's number
 // and place. `work` has four cells for each part. It is all zero afterwards, or as it was after refusals 1 to 3.
@@ -97,7 +93,7 @@ pub fn admit_lent(
         return r;
     };
     let found = stale::tables(parents, label, tour, lift, work);
-    scan::clear(work);
+    cells::clear(work);
     found
 }
 
@@ -105,7 +101,7 @@ pub fn admit_lent(
 pub fn root(parents: &[u16]) -> usize
     ensures { λ r. ⌜ r ≡ rootOf (now (parents .entry)) ⌝ }
 {
-    scan::root(parents)
+    rooted::root(parents)
 }
 
 // PREORDER and SIZE of an accepted sheet, in the second half of `work`, which has four cells for each part: for the calls of other crates that go by them. The
@@ -132,33 +128,8 @@ fn admit(parents: &[u16], unfit: usize, work: &mut [u16]) -> Outcome
     if unfit != 0 {
         return Outcome::Refused(Refusal::WrongLength(unfit));
     }
-    scan::clear(work);
-    let r = test_tree(parents, 0, work);
-    scan::clear(work);
+    cells::clear(work);
+    let r = rooted::test_tree(parents, 0, work);
+    cells::clear(work);
     r
-}
-
-// Tests 4 to 7, the parts counted from `shift` on. The loop test keeps its links in `work`.
-fn test_tree(parents: &[u16], shift: usize, work: &mut [u16]) -> Outcome
-    requires { ⌜ Roomy (now parents) (now work) × (shift ≤ limit) ⌝ }
-    ensures { λ r. ⌜ verdictOf r ≡ verdict (treeTests shift (now (parents .entry))) ⌝ }
-{
-    let n = parents.len();
-    let off = cells::first_from(parents, n);
-    if off < n {
-        return Outcome::Refused(Refusal::ParentOutOfRange(shift + off));
-    }
-    let root = scan::root(parents);
-    if n <= root {
-        return Outcome::Refused(Refusal::NoRoot);
-    }
-    let second = scan::second_root(parents, root);
-    if second < n {
-        return Outcome::Refused(Refusal::SecondRoot(shift + second));
-    }
-    let v = jumps::first_cycle(parents, root, work);
-    if v < n {
-        return Outcome::Refused(Refusal::Cycle(shift + v));
-    }
-    Outcome::Accepted
 }

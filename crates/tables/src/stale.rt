@@ -1,7 +1,6 @@
 // Comparing lent tables with an accepted sheet, section by section, up to the first cell that differs. Where a section's cells can be told to be the sheet's own
 // from those before them, it is not made; the others are made in work and compared.
 
-use crate::scan;
 use tree::Outcome;
 use tree::Refusal;
 ghost use mathlib.Core.Path.{_≡_};
@@ -54,7 +53,7 @@ pub(crate) fn label(parents: &[u16], table: &[u16], work: &mut [u16]) -> usize
     ensures { λ r. ⌜ r ≡ firstDifference (now (table .entry)) (labelTable (now (parents .entry))) ⌝ }
 {
     let n = parents.len();
-    let root = scan::root(parents);
+    let root = rooted::root(parents);
     let same = numbers(parents, root, table, work);
     if same < 2 * n {
         return same;

@@ -1,4 +1,4 @@
--- `tables::scan::next_root` meets its contract: no part passed names itself.
+-- `rooted::scan::next_root` meets its contract: no part passed names itself.
 -- Assumes nothing.
 use Prim.Native.Nat.{ℕ, _-_, _≤_, _<_}
 use native.Mathlib.Omega.{arith}
@@ -7,8 +7,8 @@ use borrow.Author.Needs.{needs}
 use lib.ListN.{length, getD}
 use mathlib.Core.Logic.{_≢_}
 use Rattle.tree.proofs.Places.{next-root-place}
-use Rattle.tables.proofs.scan.next_root.Statement.{statement}
-use Rattle.tables.proofs.scan.next_root.Tie as tie
+use Rattle.rooted.proofs.scan.next_root.Statement.{statement}
+use Rattle.rooted.proofs.scan.next_root.Tie as tie
 
 abbrev Inv-loop : tie.InvT-loop
 Inv-loop parents first n v₀ v = (first ≤ v) × (v ≤ length parents) × ((j : ℕ) → first ≤ j → j < v → getD parents j 0 ≢ j)

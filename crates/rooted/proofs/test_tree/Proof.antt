@@ -1,4 +1,4 @@
--- `tables::test_tree` meets its contract: each answer is that of the first test whose place was found.
+-- `rooted::test_tree` meets its contract: each answer is that of the first test whose place was found.
 -- Assumes nothing.
 use Prim.Native.Nat.{ℕ, suc, _+_, _≤_, _<_}
 use mathlib.Core.Path.{_≡_, sym, ap, _∙_, subst}
@@ -11,10 +11,10 @@ use Rattle.tree.specs.Verdict.{refused}
 use Rattle.tree.specs.Tests.{firstOutside}
 use Rattle.tree.proofs.Places.{out-of-range-place}
 use Rattle.tree.proofs.Answers.{refused-out-of-range, refused-no-root, refused-second-root, refused-cycle, accepted-tree-tests}
-use Rattle.tables.specs.Jumps.{OneRoot}
-use Rattle.tables.proofs.Jumping.{one-root}
-use Rattle.tables.proofs.test_tree.Statement.{statement}
-use Rattle.tables.proofs.test_tree.Tie as tie
+use Rattle.rooted.specs.Jumps.{OneRoot}
+use Rattle.rooted.proofs.Jumping.{one-root}
+use Rattle.rooted.proofs.test_tree.Statement.{statement}
+use Rattle.rooted.proofs.test_tree.Tie as tie
 
 -- the sheet
 abbrev sheet : tie.Start → List ℕ

@@ -1,4 +1,4 @@
--- `tables::jumps::first_unrooted` meets its contract: the climbs of the parts passed meet the root.
+-- `rooted::jumps::first_unrooted` meets its contract: the climbs of the parts passed meet the root.
 -- Assumes nothing.
 use Prim.Native.Nat.{ℕ, _-_, _≤_, _<_}
 use native.Mathlib.Nat.{not-suc-le-zero}
@@ -10,9 +10,9 @@ use borrow.Author.Needs.{needs}
 use lib.ListN.{length}
 use Rattle.tree.specs.Tree.{climb, isRoot}
 use Rattle.tree.proofs.Places.{cycle-place}
-use Rattle.tables.proofs.Jumping.{linked-root, linked-elsewhere}
-use Rattle.tables.proofs.jumps.first_unrooted.Statement.{statement}
-use Rattle.tables.proofs.jumps.first_unrooted.Tie as tie
+use Rattle.rooted.proofs.Jumping.{linked-root, linked-elsewhere}
+use Rattle.rooted.proofs.jumps.first_unrooted.Statement.{statement}
+use Rattle.rooted.proofs.jumps.first_unrooted.Tie as tie
 
 abbrev Inv-loop : tie.InvT-loop
 Inv-loop parents root work n v₀ v =

@@ -5,7 +5,7 @@ ghost use mathlib.Core.Path.{_≡_};
 ghost use Prim.Native.Nat.{_<_};
 ghost use lib.ListN.{length, getD};
 ghost use Rattle.tree.specs.Tests.{firstLost};
-ghost use Rattle.tables.specs.Jumps.{Rooted, Links, Hopped, Jumped};
+ghost use Rattle.rooted.specs.Jumps.{Rooted, Links, Hopped, Jumped};
 
 // The lowest part whose climb never meets the root; the number of parts where there is none.
 pub(crate) fn first_cycle(parents: &[u16], root: usize, work: &mut [u16]) -> usize

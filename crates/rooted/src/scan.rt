@@ -1,19 +1,12 @@
-// One pass over a slice: clearing it, the root, and the first part that fails a test.
+// One pass over a sheet: the parts that name themselves.
 
 ghost use mathlib.Core.Path.{_≡_};
 ghost use Prim.Native.Nat.{ℕ, suc, _≤_, _<_};
 ghost use mathlib.Core.Bool.{false};
 ghost use mathlib.Core.Logic.{_≢_};
-ghost use lib.ListN.{length, getD, replicate};
-ghost use Rattle.tree.specs.Tree.{nextRoot, rootOf};
+ghost use lib.ListN.{length, getD};
+ghost use Rattle.tree.specs.Tree.{nextRoot};
 ghost use Rattle.tree.specs.Tests.{limit};
-
-// Fills a buffer with zeros.
-pub(crate) fn clear(buffer: &mut [u16])
-    ensures { λ _. ⌜ now (buffer .exit) ≡ replicate (length (now (buffer .entry))) 0 ⌝ }
-{
-    cells::fill_all(buffer, 0);
-}
 
 // The lowest part from `first` on that names itself; the number of parts where there is none.
 pub(crate) fn next_root(parents: &[u16], first: usize) -> usize
@@ -29,13 +22,6 @@ pub(crate) fn next_root(parents: &[u16], first: usize) -> usize
         v += 1;
     }
     v
-}
-
-// The part that names itself, of a sheet that has one; else the lowest such part, or the number of parts where there is none.
-pub(crate) fn root(parents: &[u16]) -> usize
-    ensures { λ r. ⌜ r ≡ rootOf (now (parents .entry)) ⌝ }
-{
-    next_root(parents, 0)
 }
 
 // The lowest part after `root` that names itself; the number of parts where there is none, as usually.

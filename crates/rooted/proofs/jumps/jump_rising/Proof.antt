@@ -1,11 +1,11 @@
--- `tables::jumps::jump_rising` meets its contract: the pass has yet to come to the parts from v on.
+-- `rooted::jumps::jump_rising` meets its contract: the pass has yet to come to the parts from v on.
 -- Assumes nothing.
 use Prim.Native.Nat.{_-_}
 use borrow.Author.Needs.{needs}
 use lib.ListN.{length}
-use Rattle.tables.proofs.Jumping.{Jumping, jumping-start, first-inside, jumping-rise, jumping-end}
-use Rattle.tables.proofs.jumps.jump_rising.Statement.{statement}
-use Rattle.tables.proofs.jumps.jump_rising.Tie as tie
+use Rattle.rooted.proofs.Jumping.{Jumping, jumping-start, first-inside, jumping-rise, jumping-end}
+use Rattle.rooted.proofs.jumps.jump_rising.Statement.{statement}
+use Rattle.rooted.proofs.jumps.jump_rising.Tie as tie
 
 abbrev Inv-loop : tie.InvT-loop
 Inv-loop parents root work₀ n top bits₀ v₀ work bits v = Jumping parents work₀ work root v (length parents) bits

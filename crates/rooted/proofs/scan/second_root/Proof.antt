@@ -1,12 +1,12 @@
--- `tables::scan::second_root` meets its contract: no part after the root names itself, or the next is looked for.
+-- `rooted::scan::second_root` meets its contract: no part after the root names itself, or the next is looked for.
 -- Assumes nothing.
 use native.Mathlib.Nat.{le-refl}
 use native.Mathlib.Numerals.{add-one}
 use native.Mathlib.Omega.{arith}
 use borrow.Author.Needs.{needs}
 use Rattle.tree.proofs.Places.{next-root-place}
-use Rattle.tables.proofs.scan.second_root.Statement.{statement}
-use Rattle.tables.proofs.scan.second_root.Tie as tie
+use Rattle.rooted.proofs.scan.second_root.Statement.{statement}
+use Rattle.rooted.proofs.scan.second_root.Tie as tie
 
 add-some-root : tie.Need-add-some-root
 add-some-root c = search needs

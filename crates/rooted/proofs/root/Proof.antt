@@ -1,10 +1,10 @@
--- `tables::scan::root` meets its contract: the root is the lowest part from 0 on that names itself.
+-- `rooted::root` meets its contract: the root is the lowest part from 0 on that names itself.
 -- Assumes nothing.
 use mathlib.Core.Path.{sym, _∙_}
 use borrow.Author.Needs.{needs}
 use Rattle.tree.proofs.Roots.{root-of-next}
-use Rattle.tables.proofs.scan.root.Statement.{statement}
-use Rattle.tables.proofs.scan.root.Tie as tie
+use Rattle.rooted.proofs.root.Statement.{statement}
+use Rattle.rooted.proofs.root.Tie as tie
 
 next-root-requires : tie.Need-next-root-requires
 next-root-requires c κs = search needs

@@ -1,14 +1,14 @@
--- `tables::jumps::first_cycle` meets its contract: every link is as many steps up as have been counted, or more.
+-- `rooted::jumps::first_cycle` meets its contract: every link is as many steps up as have been counted, or more.
 -- Assumes nothing.
 use Prim.Native.Nat.{_*_, _-_, _≤_, zero-le}
 use native.Mathlib.Omega.{arith}
 use mathlib.Core.Path.{_≡_, _∙_}
 use borrow.Author.Needs.{needs}
 use lib.ListN.{length}
-use Rattle.tables.specs.Jumps.{Links}
-use Rattle.tables.proofs.Jumping.{links-start, links-twice, links-less, no-cycle}
-use Rattle.tables.proofs.jumps.first_cycle.Statement.{statement}
-use Rattle.tables.proofs.jumps.first_cycle.Tie as tie
+use Rattle.rooted.specs.Jumps.{Links}
+use Rattle.rooted.proofs.Jumping.{links-start, links-twice, links-less, no-cycle}
+use Rattle.rooted.proofs.jumps.first_cycle.Statement.{statement}
+use Rattle.rooted.proofs.jumps.first_cycle.Tie as tie
 
 abbrev Inv-loop : tie.InvT-loop
 Inv-loop parents root work₀ n steps₀ work steps = (1 ≤ steps) × (length work ≡ length work₀) × Links parents work root steps

@@ -1,4 +1,4 @@
--- `tables::scan::some_root` meets its contract: while none is found, no part passed names itself.
+-- `rooted::scan::some_root` meets its contract: while none is found, no part passed names itself.
 -- Assumes nothing.
 use Prim.Native.Nat.{ℕ, _-_, _≤_, _<_}
 use native.Mathlib.Omega.{arith}
@@ -8,8 +8,8 @@ use mathlib.Core.Path.{_≡_, sym, _∙_}
 use borrow.Author.Count.{below-more}
 use borrow.Author.Needs.{needs}
 use lib.ListN.{length, getD}
-use Rattle.tables.proofs.scan.some_root.Statement.{statement}
-use Rattle.tables.proofs.scan.some_root.Tie as tie
+use Rattle.rooted.proofs.scan.some_root.Statement.{statement}
+use Rattle.rooted.proofs.scan.some_root.Tie as tie
 
 abbrev Inv-loop : tie.InvT-loop
 Inv-loop parents first n found₀ v₀ found v = (found ≡ false → (j : ℕ) → j < v → first ≤ j → getD parents j 0 ≢ j)

@@ -1,9 +1,9 @@
--- `tables::jumps::jump_falling` meets its contract: the pass has yet to come to the parts below v.
+-- `rooted::jumps::jump_falling` meets its contract: the pass has yet to come to the parts below v.
 -- Assumes nothing.
 use borrow.Author.Needs.{needs}
-use Rattle.tables.proofs.Jumping.{Jumping, jumping-start, last-inside, jumping-fall, jumping-end}
-use Rattle.tables.proofs.jumps.jump_falling.Statement.{statement}
-use Rattle.tables.proofs.jumps.jump_falling.Tie as tie
+use Rattle.rooted.proofs.Jumping.{Jumping, jumping-start, last-inside, jumping-fall, jumping-end}
+use Rattle.rooted.proofs.jumps.jump_falling.Statement.{statement}
+use Rattle.rooted.proofs.jumps.jump_falling.Tie as tie
 
 abbrev Inv-loop : tie.InvT-loop
 Inv-loop parents root work₀ top bits₀ v₀ work bits v = Jumping parents work₀ work root 0 v bits

@@ -1,8 +1,8 @@
--- `tables::scan::clear` meets its contract: every cell is filled with 0.
+-- `cells::clear` meets its contract: every cell is filled with 0.
 -- Assumes nothing.
 use borrow.Author.Needs.{needs}
-use Rattle.tables.proofs.scan.clear.Statement.{statement}
-use Rattle.tables.proofs.scan.clear.Tie as tie
+use Rattle.cells.proofs.clear.Statement.{statement}
+use Rattle.cells.proofs.clear.Tie as tie
 
 fill-all-requires : tie.Need-fill-all-requires
 fill-all-requires c κs = search needs

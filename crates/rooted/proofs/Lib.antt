@@ -1,0 +1,2 @@
+-- Laws about this crate's loops. Assumes nothing.
+pub mod Jumping
