@@ -12,7 +12,7 @@ import re
 import sys
 
 LAYERS = [
-    ["bits", "tree", "cells", "labels", "rows", "rooted", "tables"],
+    ["bits", "tree", "cells", "preorder", "labels", "rows", "rooted", "tables"],
     ["rules", "lifting", "routes"],
     ["text", "console", "report", "lca"],
 ]

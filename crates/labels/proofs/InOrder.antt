@@ -4,7 +4,7 @@ use Prim.Native.Nat.{ℕ, suc, _+_, _-_, _≤_, _<_}
 use native.Mathlib.Nat.{zero-add}
 use native.Mathlib.Omega.{arith}
 use mathlib.Core.Path.{_≡_, refl, sym, ap, _∙_}
-use mathlib.Core.Logic.{_≢_, _⊎_, inl, inr}
+use mathlib.Core.Logic.{_≢_, inl, inr}
 use mathlib.Core.List.{List}
 use lib.ListN.{length, getD, set}
 use lib.Seq.{getD-set-other}
@@ -14,7 +14,8 @@ use Rattle.tree.specs.Preorder.{preorder, preorderNumber}
 use Rattle.tree.specs.Sections.{Same}
 use Rattle.tree.proofs.Scans.{by-equal}
 use Rattle.tree.proofs.Sizes.{preorder-pos, preorder-at, preorder-most, preorder-number-at, preorder-part, preorder-injective, preorder-parent, preorder-root}
-use Rattle.labels.proofs.Filling.{Filling, filling-store}
+use Rattle.preorder.proofs.Filling.{Filling, filling-store}
+use Rattle.preorder.proofs.Numbering.{At, at-next}
 
 -- the nodes below v stand in their cells of the preorder
 abbrev pub Listed : List ℕ → List ℕ → ℕ → Type 0
@@ -24,11 +25,6 @@ Listed s work v = Filling s work 0 (λ i. getD (preorder s) i 0) (λ i. getD (pr
 pub record Along (s work : List ℕ) (f : ℕ → ℕ) (i : ℕ) : Type 0 where
   pub order : Same work 0 (preorder s) 0 (length s)
   pub made : Filling s work (length s) f (λ x. preorderNumber s x ≤ i)
-
--- v is node i of the preorder
-pub record At (s : List ℕ) (v i : ℕ) : Type 0 where
-  pub node : v < length s
-  pub number : preorderNumber s v ≡ suc i
 
 -- v is a node below the root, and f is made for its parent
 pub record Below (s work : List ℕ) (f : ℕ → ℕ) (v : ℕ) : Type 0 where
@@ -42,11 +38,6 @@ pub listed-start : {s work : List ℕ} → length work ≡ workCells (length s) 
 listed-start long = record { room = long; cell = λ i h b. absurd (omega arith) }
 
 module _ {s : List ℕ} (t : Tree s) where
-  -- with it come those numbered up to i + 1
-  pub at-next : {v i : ℕ} → At s v i → (x : ℕ) → x < length s → preorderNumber s x ≤ i + 1 → (x ≡ v) ⊎ (preorderNumber s x ≤ i)
-  at-next {v} {i} at x h b =
-      by-equal (preorderNumber s x) (suc i) (λ g. inl (preorder-injective t x v h (at .node) (g ∙ sym (at .number)))) (λ g. inr (omega arith))
-
   -- ---- the list
 
   -- the node of the next turn
@@ -106,7 +97,7 @@ module _ {s : List ℕ} (t : Tree s) where
       let here : At s v i = along-at i (a .order) h in
       record {
         order = record { cell = λ x b. getD-set-other work (length s + v) (0 + x) y 0 (λ g. absurd (omega arith)) ∙ a .order .cell x b };
-        made = filling-store (a .made) v refl (omega arith) e (at-next here);
+        made = filling-store (a .made) v refl (omega arith) e (at-next t here);
       }
 
   -- all nodes are made

@@ -1,24 +1,20 @@
 -- What is read from the columns of a label table that are the sheet's own: PREORDER, SIZE and INLABEL of a node, and their bounds.
--- Also when PREORDER and SIZE together are its first two columns.
 -- Assumes nothing.
-use Prim.Native.Nat.{ℕ, suc, _+_, _*_, _≤_, _<_}
-use native.Mathlib.Nat.{lt-of-lt-of-le, zero-add, zero-mul, one-mul}
+use Prim.Native.Nat.{ℕ, _+_, _*_, _≤_, _<_}
+use native.Mathlib.Nat.{lt-of-lt-of-le}
 use native.Mathlib.Omega.{arith}
 use mathlib.Core.Path.{_≡_, refl, sym}
 use mathlib.Core.List.{List}
 use lib.Dec.{lit<}
 use lib.ListN.{length, getD}
-use Rattle.tree.specs.Tree.{Tree}
 use Rattle.tree.specs.Preorder.{preorderNumber, size}
-use Rattle.tree.specs.Labels.{inlabel, topmost, labelTable}
-use Rattle.tree.specs.Sections.{Same}
+use Rattle.tree.specs.Labels.{inlabel, topmost}
 use Rattle.tree.specs.Ready.{Columns}
-use Rattle.tree.proofs.Differences.{same-join}
-use Rattle.tree.proofs.Columns.{column-same, column-read, columns-fewer}
-use Rattle.tree.proofs.Sizes.{size-root, preorder-pos, preorder-most, preorder-root}
-use Rattle.tree.proofs.Intervals.{carried-to}
+use Rattle.tree.proofs.Columns.{column-read, columns-fewer}
+use Rattle.tree.proofs.Sizes.{preorder-pos, preorder-most}
 use Rattle.tree.proofs.Inlabels.{inlabel-formula}
 use Rattle.tree.proofs.Paths.{inlabel-low, inlabel-most-n}
+use Rattle.preorder.proofs.Numbering.{interval-ends}
 
 -- PREORDER of v
 pub record Number (s label : List ℕ) (v : ℕ) : Type 0 where
@@ -31,23 +27,6 @@ pub record Labelled (s label : List ℕ) (v : ℕ) : Type 0 where
   pub is : getD label (3 * length s + v) 0 ≡ inlabel s v
   pub pos : 0 < inlabel s v
   pub most : inlabel s v ≤ length s
-
--- n cells with PREORDER and n with SIZE after them are the first two columns
-pub two-columns : (s w : List ℕ) (at next : ℕ) → next ≡ at + length s → ((v : ℕ) → v < length s → getD w (at + v) 0 ≡ preorderNumber s v)
-    → ((v : ℕ) → v < length s → getD w (next + v) 0 ≡ size s v) → Same w at (labelTable s) 0 (2 * length s)
-two-columns s w at next e number long =
-    let first : Same w at (labelTable s) 0 (length s) = rw zero-mul at (column-same s w at 0 (lit< tt) number) in
-    let second : Same w (at + length s) (labelTable s) (0 + length s) (length s) = rw (← e, zero-add) (rw one-mul at (column-same s w next 1 (lit< tt) long)) in
-    let twice : length s + length s ≡ 2 * length s = omega arith in
-    rw twice at (same-join first second)
-
--- the numbers of what v carries end with n
-pub interval-ends : {s : List ℕ} (t : Tree s) {v : ℕ} → v < length s → preorderNumber s v + size s v ≤ suc (length s)
-interval-ends t {v} h =
-    let end = carried-to t h (t .reach v h) in
-    let first = preorder-root t in
-    let all = size-root t in
-    omega arith
 
 module _ {s label before : List ℕ} {v : ℕ} (h : v < length s) where
   pub number : Columns s label before 1 → Number s label v

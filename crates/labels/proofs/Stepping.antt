@@ -23,7 +23,7 @@ use Rattle.tree.proofs.Columns.{column-same}
 use Rattle.labels.specs.Steps.{cellIn, Follows, levelStep, ascendantStep, Steps}
 use Rattle.labels.proofs.Labelled.{labelled}
 use Rattle.labels.proofs.Ascending.{add-chosen}
-use Rattle.labels.proofs.Parents.{Cells, cells-at, the-root, root-down}
+use Rattle.preorder.proofs.Parents.{Cells, cells-at, the-root, root-down}
 
 -- ---- one node further
 

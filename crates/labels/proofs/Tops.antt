@@ -17,10 +17,10 @@ use Rattle.tree.specs.Ready.{Ready}
 use Rattle.tree.proofs.Scans.{by-equal, by-test}
 use Rattle.tree.proofs.Trees.{root-found}
 use Rattle.tree.proofs.Paths.{Top, no-node, top-node, head-cases, head-top}
-use Rattle.labels.proofs.Parents.{the-root}
+use Rattle.preorder.proofs.Parents.{the-root}
 use Rattle.labels.proofs.Labelled.{Labelled}
 use Rattle.labels.specs.Heads.{headPlace}
-use Rattle.labels.proofs.Filling.{Filling, filling-store, filling-keep}
+use Rattle.preorder.proofs.Filling.{Filling, filling-store, filling-keep}
 
 -- what is found of HEAD when the nodes below v have been seen, and the root
 abbrev pub Seen : List ℕ → ℕ → ℕ → Type 0

@@ -1,4 +1,2 @@
 pub mod Heads
-pub mod Walk
-pub mod Sums
 pub mod Steps

@@ -1,10 +1,8 @@
-// The columns of the label table. Each is made in work from the sheet and the columns before it, for building and comparing alike: a call
+// The columns of the label table after PREORDER and SIZE. Each is made in work from the sheet and the columns before it, for building and comparing alike: a call
 // of `tables` copies it out, or looks for the first cell that differs from it. The sheet is one rooted tree, and work has its exact length.
 
 mod along;
-mod links;
 mod steps;
-mod sums;
 
 ghost use mathlib.Core.Path.{_≡_};
 ghost use mathlib.Core.Bool.{true};
@@ -12,31 +10,13 @@ ghost use Prim.Native.Nat.{_+_, _-_, _*_, _^_, _≤_, _<_};
 ghost use lib.ListN.{length};
 ghost use Rattle.bits.specs.Bits.{log2};
 ghost use Rattle.tree.specs.Tree.{rootOf};
-ghost use Rattle.tree.specs.Buffers.{labelCells};
 ghost use Rattle.tree.specs.Labels.{labelTable, topmost};
-ghost use Rattle.tree.specs.Ready.{Ready, Columns, ColumnIn, ColumnsOwn, ColumnOwn, NumbersIn};
+ghost use Rattle.tree.specs.Ready.{Columns, ColumnIn, ColumnOwn};
 ghost use Rattle.cells.specs.Cells.{AgreeAt};
 ghost use Rattle.labels.specs.Heads.{headPlace};
 
 // No cell.
 const NONE: u16 = 65535;
-
-// PREORDER and SIZE, into the last 2n cells of work.
-pub fn numbers(parents: &[u16], root: usize, work: &mut [u16])
-    requires { ⌜ Ready (now parents) (now work) × (root ≡ rootOf (now parents)) ⌝ }
-    ensures { λ _. ⌜ NumbersIn (now (parents .entry)) (now (work .exit)) ⌝ }
-{
-    links::link(parents, work);
-    links::walk(parents, root, work);
-}
-
-// Whether the PREORDER and SIZE of a lent label table are the sheet's own: sooner told than they are made. The first n cells of work are made use of.
-pub fn numbers_hold(parents: &[u16], root: usize, label: &[u16], work: &mut [u16]) -> bool
-    requires { ⌜ Ready (now parents) (now work) × (root ≡ rootOf (now parents)) × (length (now label) ≡ labelCells (length (now parents))) ⌝ }
-    ensures { λ r. ⌜ (r ≡ true → ColumnsOwn (now (parents .entry)) (now (label .entry)) 2) ⌝ }
-{
-    sums::hold(parents, root, label, work)
-}
 
 // Column k, from 2 on, into the n cells of work from n on.
 pub fn column(k: usize, parents: &[u16], root: usize, label: &[u16], work: &mut [u16])

@@ -36,7 +36,7 @@ pub(crate) fn label(parents: &[u16], table: &mut [u16], work: &mut [u16])
 {
     let n = parents.len();
     let root = rooted::root(parents);
-    labels::numbers(parents, root, work);
+    preorder::numbers(parents, root, work);
     cells::copy(table, 0, work, 2 * n, 2 * n);
     let mut k = 2;
     while k < 6 {

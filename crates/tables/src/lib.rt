@@ -110,7 +110,7 @@ pub fn numbers(parents: &[u16], work: &mut [u16])
     requires { ⌜ Ready (now parents) (now work) ⌝ }
     ensures { λ _. ⌜ NumbersIn (now (parents .entry)) (now (work .exit)) ⌝ }
 {
-    labels::numbers(parents, root(parents), work);
+    preorder::numbers(parents, root(parents), work);
 }
 
 // Tests 1 to 7, of a call whose lowest buffer that does not fit is `unfit`, or 0.

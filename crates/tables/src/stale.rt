@@ -75,10 +75,10 @@ fn numbers(parents: &[u16], root: usize, table: &[u16], work: &mut [u16]) -> usi
     ensures { λ r. ⌜ AgreeAt (now (table .entry)) (labelTable (now (parents .entry))) 0 (2 * length (now (parents .entry))) r ⌝ }
 {
     let n = parents.len();
-    if labels::numbers_hold(parents, root, table, work) {
+    if preorder::numbers_hold(parents, root, table, work) {
         return 2 * n;
     }
-    labels::numbers(parents, root, work);
+    preorder::numbers(parents, root, work);
     cells::agree(table, 0, work, 2 * n, 2 * n)
 }
 

@@ -9,7 +9,7 @@ use lib.ListN.{length, getD}
 use Rattle.tree.specs.Tree.{parent}
 use Rattle.tree.specs.Buffers.{workCells}
 use Rattle.tree.proofs.Columns.{column-same}
-use Rattle.labels.proofs.Parents.{the-root}
+use Rattle.preorder.proofs.Parents.{the-root}
 use Rattle.labels.proofs.Labelled.{Labelled, labelled}
 use Rattle.labels.proofs.Tops.{Heads, Seen, place-inside, heads-start, heads-step, heads-end}
 use Rattle.labels.proofs.heads.Statement.{statement}

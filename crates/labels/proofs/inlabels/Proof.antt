@@ -11,7 +11,7 @@ use Rattle.tree.specs.Labels.{inlabel}
 use Rattle.tree.proofs.Scans.{by-equal}
 use Rattle.tree.proofs.Columns.{column-same}
 use Rattle.labels.proofs.Labelled.{interval-fits, interval-inlabel}
-use Rattle.labels.proofs.Filling.{Filling, filling-store}
+use Rattle.preorder.proofs.Filling.{Filling, filling-store}
 use Rattle.labels.proofs.inlabels.Statement.{statement}
 use Rattle.labels.proofs.inlabels.Tie as tie
 

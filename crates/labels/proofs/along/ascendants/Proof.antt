@@ -8,7 +8,8 @@ use lib.Dec.{lit<}
 use lib.ListN.{length, getD}
 use Rattle.tree.specs.Labels.{ascendant}
 use Rattle.tree.proofs.Columns.{column-same}
-use Rattle.labels.proofs.InOrder.{At, Along, Below, along-at, along-root, along-below, along-start, along-step, along-end}
+use Rattle.preorder.proofs.Numbering.{At}
+use Rattle.labels.proofs.InOrder.{Along, Below, along-at, along-root, along-below, along-start, along-step, along-end}
 use Rattle.labels.proofs.Ascending.{ascend-root, ascend-fits, ascend-is}
 use Rattle.labels.proofs.along.ascendants.Statement.{statement}
 use Rattle.labels.proofs.along.ascendants.Tie as tie

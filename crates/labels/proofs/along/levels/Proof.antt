@@ -9,7 +9,8 @@ use lib.ListN.{length, getD}
 use Rattle.tree.specs.Tree.{parent, level}
 use Rattle.tree.proofs.Trees.{level-root, level-parent, level-below}
 use Rattle.tree.proofs.Columns.{column-same}
-use Rattle.labels.proofs.InOrder.{At, Along, Below, along-at, along-root, along-below, along-start, along-step, along-end}
+use Rattle.preorder.proofs.Numbering.{At}
+use Rattle.labels.proofs.InOrder.{Along, Below, along-at, along-root, along-below, along-start, along-step, along-end}
 use Rattle.labels.proofs.along.levels.Statement.{statement}
 use Rattle.labels.proofs.along.levels.Tie as tie
 

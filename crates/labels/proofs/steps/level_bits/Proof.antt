@@ -6,7 +6,7 @@ use Prim.Native.Nat.{ℕ, _+_, _-_, _*_}
 use mathlib.Core.Path.{refl}
 use lib.ListN.{length, getD}
 use Rattle.labels.specs.Steps.{levelStep}
-use Rattle.labels.proofs.Parents.{Cells}
+use Rattle.preorder.proofs.Parents.{Cells}
 use Rattle.labels.proofs.Stepping.{Gathered, step-cells, gathered-start, gathered-step, gathered-end}
 use Rattle.labels.proofs.steps.level_bits.Statement.{statement}
 use Rattle.labels.proofs.steps.level_bits.Tie as tie

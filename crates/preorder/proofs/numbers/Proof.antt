@@ -1,9 +1,9 @@
--- `labels::numbers` meets its contract: the links are made, and the walk follows them.
+-- `preorder::numbers` meets its contract: the links are made, and the walk follows them.
 -- Assumes nothing.
 use borrow.Author.Needs.{needs}
 use Rattle.tree.proofs.Columns.{ready-kept}
-use Rattle.labels.proofs.numbers.Statement.{statement}
-use Rattle.labels.proofs.numbers.Tie as tie
+use Rattle.preorder.proofs.numbers.Statement.{statement}
+use Rattle.preorder.proofs.numbers.Tie as tie
 
 link-requires : tie.Need-link-requires
 link-requires c κs = search needs

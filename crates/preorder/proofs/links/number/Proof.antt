@@ -1,4 +1,4 @@
--- `labels::links::number` meets its contract: k nodes are numbered, and v is the next.
+-- `preorder::links::number` meets its contract: k nodes are numbered, and v is the next.
 -- Assumes nothing.
 use native.Mathlib.Omega.{arith}
 use borrow.Author.Needs.{needs}
@@ -6,11 +6,11 @@ use Prim.Native.Nat.{_-_, _≤_, _<_}
 use mathlib.Core.Path.{_≡_}
 use lib.ListN.{length, getD, length-set}
 use Rattle.tree.specs.Tree.{parent}
-use Rattle.labels.specs.Walk.{nodeAt}
-use Rattle.labels.proofs.Parents.{the-root}
-use Rattle.labels.proofs.Walking.{Walking, walking-start, walking-node, walking-step, walking-next, walking-end}
-use Rattle.labels.proofs.links.number.Statement.{statement}
-use Rattle.labels.proofs.links.number.Tie as tie
+use Rattle.preorder.specs.Walk.{nodeAt}
+use Rattle.preorder.proofs.Parents.{the-root}
+use Rattle.preorder.proofs.Walking.{Walking, walking-start, walking-node, walking-step, walking-next, walking-end}
+use Rattle.preorder.proofs.links.number.Statement.{statement}
+use Rattle.preorder.proofs.links.number.Tie as tie
 
 abbrev Inv-loop : tie.InvT-loop
 Inv-loop parents root work₀ n v₀ k₀ work v k = (k ≤ length parents) × (v ≡ nodeAt parents k) × Walking parents work k

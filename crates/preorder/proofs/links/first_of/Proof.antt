@@ -1,8 +1,8 @@
--- `labels::links::first_of` meets its contract: the two cases of the definition are the two branches.
+-- `preorder::links::first_of` meets its contract: the two cases of the definition are the two branches.
 -- Assumes nothing.
 use borrow.Author.Tests.{lt-ltb, le-ltb}
-use Rattle.labels.proofs.links.first_of.Statement.{statement}
-use Rattle.labels.proofs.links.first_of.Tie as tie
+use Rattle.preorder.proofs.links.first_of.Statement.{statement}
+use Rattle.preorder.proofs.links.first_of.Tie as tie
 
 returns : tie.Need-returns
 returns c = rw (lt-ltb _ _ (c .if1 .taken))

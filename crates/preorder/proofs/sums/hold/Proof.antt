@@ -1,4 +1,4 @@
--- `labels::sums::hold` meets its contract: the sums go over the nodes below the root and over those above it.
+-- `preorder::sums::hold` meets its contract: the sums go over the nodes below the root and over those above it.
 -- Assumes nothing.
 use native.Mathlib.Omega.{arith}
 use borrow.Author.Needs.{needs}
@@ -9,10 +9,10 @@ use native.Mathlib.Numerals.{add-one}
 use mathlib.Core.Path.{_≡_, _∙_}
 use lib.ListN.{length}
 use Rattle.tree.proofs.Columns.{ready-kept}
-use Rattle.labels.proofs.Summing.{sums-none, sums-root, numbers-own}
-use Rattle.labels.proofs.Parents.{the-root}
-use Rattle.labels.proofs.sums.hold.Statement.{statement}
-use Rattle.labels.proofs.sums.hold.Tie as tie
+use Rattle.preorder.proofs.Summing.{sums-none, sums-root, numbers-own}
+use Rattle.preorder.proofs.Parents.{the-root}
+use Rattle.preorder.proofs.sums.hold.Statement.{statement}
+use Rattle.preorder.proofs.sums.hold.Tie as tie
 
 fill-requires : tie.Need-fill-requires
 fill-requires c κs = search needs

@@ -19,9 +19,9 @@ use Rattle.tree.proofs.Sums.{sum-child, sum-gap, sum-zero, sum-same}
 use Rattle.tree.proofs.Sizes.{size-sum, preorder-root, preorder-child}
 use Rattle.tree.proofs.Differences.{store-either}
 use Rattle.cells.specs.Cells.{Filled}
-use Rattle.labels.specs.Sums.{sizeIn, sumIn, Sums, Numbered}
-use Rattle.labels.proofs.Labelled.{two-columns}
-use Rattle.labels.proofs.Parents.{not-itself, own-child, other-child, root-child, root-down}
+use Rattle.preorder.specs.Sums.{sizeIn, sumIn, Sums, Numbered}
+use Rattle.preorder.proofs.Numbering.{two-columns}
+use Rattle.preorder.proofs.Parents.{not-itself, own-child, other-child, root-child, root-down}
 
 -- ---- the sums, node by node
 

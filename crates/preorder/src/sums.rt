@@ -7,7 +7,7 @@ ghost use lib.ListN.{length};
 ghost use Rattle.tree.specs.Tree.{rootOf};
 ghost use Rattle.tree.specs.Buffers.{labelCells};
 ghost use Rattle.tree.specs.Ready.{Ready, ColumnsOwn};
-ghost use Rattle.labels.specs.Sums.{Sums, Numbered, Adds};
+ghost use Rattle.preorder.specs.Sums.{Sums, Numbered, Adds};
 
 // Whether they are. The first n cells of work are made use of.
 pub(crate) fn hold(parents: &[u16], root: usize, label: &[u16], work: &mut [u16]) -> bool

@@ -1,4 +1,4 @@
--- `labels::links::link` meets its contract: the nodes from i on have been passed.
+-- `preorder::links::link` meets its contract: the nodes from i on have been passed.
 -- Assumes nothing.
 use native.Mathlib.Omega.{arith}
 use borrow.Author.Needs.{needs}
@@ -7,9 +7,9 @@ use mathlib.Core.Path.{_≡_}
 use lib.ListN.{length, getD, length-set}
 use Rattle.tree.specs.Tree.{parent}
 use Rattle.tree.proofs.Columns.{ready-kept}
-use Rattle.labels.proofs.Linking.{Linking, linking-start, linking-root, linking-child, linking-end}
-use Rattle.labels.proofs.links.link.Statement.{statement}
-use Rattle.labels.proofs.links.link.Tie as tie
+use Rattle.preorder.proofs.Linking.{Linking, linking-start, linking-root, linking-child, linking-end}
+use Rattle.preorder.proofs.links.link.Statement.{statement}
+use Rattle.preorder.proofs.links.link.Tie as tie
 
 abbrev Inv-loop : tie.InvT-loop
 Inv-loop parents work₀ n i₀ work i = (i ≤ length parents) × (length work ≡ length work₀) × Linking parents work i

@@ -1,13 +1,13 @@
--- `labels::links::measure` meets its contract: the nodes below v have their SIZE.
+-- `preorder::links::measure` meets its contract: the nodes below v have their SIZE.
 -- Assumes nothing.
 use native.Mathlib.Omega.{arith}
 use borrow.Author.Needs.{needs}
 use Prim.Native.Nat.{_+_, _-_, _*_, _≤_}
 use mathlib.Core.Path.{_≡_}
 use lib.ListN.{length}
-use Rattle.labels.proofs.Walking.{Measuring, measuring-start, measuring-ends, measuring-step, measuring-end}
-use Rattle.labels.proofs.links.measure.Statement.{statement}
-use Rattle.labels.proofs.links.measure.Tie as tie
+use Rattle.preorder.proofs.Walking.{Measuring, measuring-start, measuring-ends, measuring-step, measuring-end}
+use Rattle.preorder.proofs.links.measure.Statement.{statement}
+use Rattle.preorder.proofs.links.measure.Tie as tie
 
 abbrev Inv-loop : tie.InvT-loop
 Inv-loop parents work₀ n v₀ work v = (v ≤ length parents) × Measuring parents work v

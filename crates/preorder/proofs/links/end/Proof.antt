@@ -1,9 +1,9 @@
--- `labels::links::end` meets its contract: the two cases of the definition are the two branches.
+-- `preorder::links::end` meets its contract: the two cases of the definition are the two branches.
 -- Assumes nothing.
 use borrow.Author.Needs.{needs}
 use borrow.Author.Tests.{lt-ltb, le-ltb}
-use Rattle.labels.proofs.links.end.Statement.{statement}
-use Rattle.labels.proofs.links.end.Tie as tie
+use Rattle.preorder.proofs.links.end.Statement.{statement}
+use Rattle.preorder.proofs.links.end.Tie as tie
 
 mul-result : tie.Need-mul-result
 mul-result c = search needs

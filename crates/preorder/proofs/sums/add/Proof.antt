@@ -1,4 +1,4 @@
--- `labels::sums::add` meets its contract: the sums are those over the nodes before v, and where no bit is gathered, PREORDER follows them so far.
+-- `preorder::sums::add` meets its contract: the sums are those over the nodes before v, and where no bit is gathered, PREORDER follows them so far.
 -- Assumes nothing.
 use native.Mathlib.Omega.{arith}
 use borrow.Author.Needs.{needs}
@@ -9,11 +9,11 @@ use mathlib.Core.List.{List}
 use lib.ListN.{length, getD, length-set}
 use Rattle.tree.specs.Tree.{parent}
 use Rattle.cells.proofs.Stretches.{no-bits}
-use Rattle.labels.specs.Sums.{Sums, Numbered}
-use Rattle.labels.proofs.Parents.{Cells, cells-at}
-use Rattle.labels.proofs.Summing.{sums-more, numbered-none, numbered-more}
-use Rattle.labels.proofs.sums.add.Statement.{statement}
-use Rattle.labels.proofs.sums.add.Tie as tie
+use Rattle.preorder.specs.Sums.{Sums, Numbered}
+use Rattle.preorder.proofs.Parents.{Cells, cells-at}
+use Rattle.preorder.proofs.Summing.{sums-more, numbered-none, numbered-more}
+use Rattle.preorder.proofs.sums.add.Statement.{statement}
+use Rattle.preorder.proofs.sums.add.Tie as tie
 
 abbrev Inv-loop : tie.InvT-loop
 Inv-loop parents label first end work₀ n bits₀ v₀ work bits v =

@@ -6,7 +6,7 @@ ghost use Prim.Native.Nat.{_*_, _≤_};
 ghost use Rattle.tree.specs.Buffers.{workCells};
 ghost use Rattle.tree.specs.Tests.{limit};
 ghost use Rattle.tree.specs.Ready.{Ready, NumbersIn};
-ghost use Rattle.labels.specs.Walk.{Links, Walks, Numbered, firstOf, endOf};
+ghost use Rattle.preorder.specs.Walk.{Links, Walks, Numbered, firstOf, endOf};
 
 // The links: each node's lowest child in the first n cells of work and its next sibling in the next n, or n where there is none.
 pub(crate) fn link(parents: &[u16], work: &mut [u16])

@@ -19,8 +19,8 @@ use Rattle.tree.proofs.PreorderList.{child-test}
 use Rattle.tree.proofs.Columns.{ready-kept}
 use Rattle.tree.proofs.Differences.{store-here}
 use Rattle.cells.specs.Cells.{Filled}
-use Rattle.labels.specs.Walk.{lowestChild, nextSibling, Links}
-use Rattle.labels.proofs.Parents.{own-child, other-child, root-child}
+use Rattle.preorder.specs.Walk.{lowestChild, nextSibling, Links}
+use Rattle.preorder.proofs.Parents.{own-child, other-child, root-child}
 
 -- the links once the nodes from i on have been passed: a node that has not been passed has no next sibling yet
 pub record Linking (s work : List ℕ) (i : ℕ) : Type 0 where

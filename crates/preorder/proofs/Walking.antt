@@ -17,12 +17,11 @@ use Rattle.tree.specs.Ready.{Ready}
 use Rattle.tree.proofs.Scans.{by-equal, by-order}
 use Rattle.tree.proofs.Trees.{root-found}
 use Rattle.tree.proofs.Sizes.{size-root, preorder-root, preorder-parent, preorder-most, preorder-pos}
-use Rattle.labels.specs.Walk.{Links, Walks, firstOf, nodeAt, nodeAfter, Numbered, endOf}
-use Rattle.labels.proofs.Labelled.{interval-ends, two-columns}
-use Rattle.labels.proofs.Filling.{Filling, filling-store, filling-keep}
-use Rattle.labels.proofs.Parents.{the-root}
-use Rattle.labels.proofs.InOrder.{At, at-next}
-use Rattle.labels.proofs.NextNode.{at-number, at-node, at-none, after-is, next-is}
+use Rattle.preorder.specs.Walk.{Links, Walks, firstOf, nodeAt, nodeAfter, Numbered, endOf}
+use Rattle.preorder.proofs.Filling.{Filling, filling-store, filling-keep}
+use Rattle.preorder.proofs.Parents.{the-root}
+use Rattle.preorder.proofs.Numbering.{At, at-next, interval-ends, two-columns}
+use Rattle.preorder.proofs.NextNode.{at-number, at-node, at-none, after-is, next-is}
 
 -- ---- the walk
 

@@ -15,9 +15,9 @@ use Rattle.tree.proofs.Roots.{root-is, is-root}
 use Rattle.tree.proofs.PreorderList.{Child, child-test, test-child}
 use Rattle.tree.proofs.Sums.{sum-zero, sum-child, sum-gap}
 use Rattle.tree.proofs.Sizes.{size-sum, preorder-child, preorder-most, preorder-pos, preorder-length, preorder-at, preorder-part, preorder-number-at}
-use Rattle.labels.specs.Walk.{lowestChild, nextSibling, firstOf, nodeAt, nodeAfter}
-use Rattle.labels.proofs.Parents.{not-itself, own-child}
-use Rattle.labels.proofs.InOrder.{At}
+use Rattle.preorder.specs.Walk.{lowestChild, nextSibling, firstOf, nodeAt, nodeAfter}
+use Rattle.preorder.proofs.Parents.{not-itself, own-child}
+use Rattle.preorder.proofs.Numbering.{At}
 
 -- the first is there, or is none
 first-some : {n : ℕ} (a b : ℕ) → a < n → firstOf n a b ≡ a

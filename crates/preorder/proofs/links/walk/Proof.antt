@@ -1,9 +1,9 @@
--- `labels::links::walk` meets its contract: the nodes are numbered, and then measured.
+-- `preorder::links::walk` meets its contract: the nodes are numbered, and then measured.
 -- Assumes nothing.
 use borrow.Author.Needs.{needs}
 use Rattle.tree.proofs.Columns.{ready-kept}
-use Rattle.labels.proofs.links.walk.Statement.{statement}
-use Rattle.labels.proofs.links.walk.Tie as tie
+use Rattle.preorder.proofs.links.walk.Statement.{statement}
+use Rattle.preorder.proofs.links.walk.Tie as tie
 
 number-requires : tie.Need-number-requires
 number-requires c κs = search needs
