@@ -3,30 +3,46 @@
 
     python3 tools/sessions.py | diff - crates/sessions/stdout
 
-The inputs that stand in the program's source are read from there, in the order of its runs; those that it makes by loops are made here again.
+The cases of its standard input are read from crates/sessions/stdin, whose head tells their form; any line there that is neither a case nor a comment
+is refused. The inputs that it makes by loops are made here again.
 """
-import ast
 import os
 import re
 import sys
 
 from report import report
 
-SOURCES = os.path.join(os.path.dirname(os.path.abspath(__file__)), '..', 'crates', 'sessions', 'src')
+CASES = os.path.join(os.path.dirname(os.path.abspath(__file__)), '..', 'crates', 'sessions', 'stdin')
 KNOWN = b'(machine 7)\n' + b''.join(b'(part %d (in %d))\n' % (v, p) for v, p in enumerate([0, 0, 0, 1, 1, 2, 5]))
-CALL = re.compile(r'show::(case|asked)\(\s*(b"(?:[^"\\]|\\.)*"),\s*(b"(?:[^"\\]|\\.)*"),?\s*\)')
+CASE = re.compile(rb'([iq]) ([^:]+):(?: (.*))?', re.S)
+MEANT = {b'n': b'\n', b'r': b'\r', b't': b'\t', b'0': b'\0', b'F': b'\xff', b'\\': b'\\'}
 
 
 def say(name, text):
     sys.stdout.write(name.decode() + ':\n' + text)
 
 
-def written(name):
-    """The runs whose inputs stand in a file of the program."""
-    with open(os.path.join(SOURCES, name)) as source:
-        for kind, title, text in CALL.findall(source.read()):
-            data = ast.literal_eval(text)
-            say(ast.literal_eval(title), report(KNOWN + data if kind == 'asked' else data))
+def refuse(number, what, found):
+    sys.exit('crates/sessions/stdin:%d: %s: %s' % (number, what, found.decode(errors='replace')))
+
+
+def decoded(text, number):
+    """The bytes that a case's text stands for."""
+    def meant(escape):
+        return MEANT.get(escape.group(1)) or refuse(number, 'no such escape', escape.group(0))
+    return re.sub(rb'\\(.?)', meant, text, flags=re.S)
+
+
+def cases():
+    """The kind, the name and the bytes of each case of standard input."""
+    with open(CASES, 'rb') as stdin:
+        lines = stdin.read().split(b'\n')
+    for number, line in enumerate(lines, 1):
+        case = CASE.fullmatch(line)
+        if case:
+            yield case.group(1), case.group(2), decoded(case.group(3) or b'', number)
+        elif line and not line.startswith(b'#'):
+            refuse(number, 'no case', line)
 
 
 def room(n):
@@ -80,8 +96,8 @@ def limits():
     summary(b'the most questions', KNOWN + 9344 * b'(many)\n')
 
 
-for name in ('machine.rt', 'line.rt', 'part.rt', 'question.rt'):
-    written(name)
+for kind, title, data in cases():
+    say(title, report(KNOWN + data if kind == b'q' else data))
 in_buffers(b'no input in its room', b'')
 in_buffers(b'a machine in its room', b'(machine 1)\n(part 0 (in 0))\n(pair 0 0)\n')
 long_lines()

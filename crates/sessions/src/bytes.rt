@@ -1,5 +1,7 @@
 // Bytes in a buffer: putting them behind each other, and looking at them.
 
+ghost use Prim.Native.Nat.{_≤_};
+ghost use lib.ListN.{length};
 ghost use Rattle.io.specs.Counts.{Counts};
 
 // As many bytes of a buffer as n says, or all.
@@ -7,6 +9,21 @@ pub fn upto(n: usize, buffer: &[u8]) -> usize
     ensures { λ r. ⌜ Counts r (now (buffer .entry)) ⌝ }
 {
     if buffer.len() < n { buffer.len() } else { n }
+}
+
+// The place of the next such byte of a text, from a place on, or the end of the text.
+pub fn find(text: &[u8], from: usize, byte: u8) -> usize
+    requires { ⌜ from ≤ length (now text) ⌝ }
+    ensures { λ r. ⌜ (from ≤ r) × (r ≤ length (now (text .entry))) ⌝ }
+{
+    let mut i = from;
+    while i < text.len() {
+        if text[i] == byte {
+            return i;
+        }
+        i += 1;
+    }
+    i
 }
 
 // Puts bytes into a buffer from a place on, as far as it reaches, and answers the place after them.

@@ -3,25 +3,12 @@
 use crate::bytes;
 use console::Written;
 
-// Runs the program on an input, in a buffer of 4,096 bytes.
-pub fn case(name: &[u8], input: &[u8]) {
-    let mut out = io::buffer();
-    title(name);
-    run(input, &mut out);
-}
-
-// The same on the first `n` bytes of a buffer.
+// Runs the program on the first n bytes of a buffer, and writes into one of 4,096 bytes.
 pub fn first(name: &[u8], buffer: &[u8], n: usize) {
+    let mut out = io::buffer();
     let count = bytes::upto(n, buffer);
-    case(name, &buffer[..count]);
-}
-
-// The same on the known machine, with some questions behind it.
-pub fn asked(name: &[u8], questions: &[u8]) {
-    let mut input = [0u8; 512];
-    let at = known(&mut input);
-    let n = bytes::put(&mut input, at, questions);
-    first(name, &input, n);
+    title(name);
+    run(&buffer[..count], &mut out);
 }
 
 // The known machine, document 01's, at the start of a buffer.
