@@ -1,8 +1,16 @@
 // Bytes in a buffer: putting them behind each other, and looking at them.
 
 ghost use Prim.Native.Nat.{_≤_};
+ghost use mathlib.Core.Path.{_≡_};
 ghost use lib.ListN.{length};
 ghost use Rattle.io.specs.Counts.{Counts};
+
+// A buffer that holds whatever is printed, and so the longest input too.
+pub fn largest_buffer() -> [u8; 262208]
+    ensures { λ r. ⌜ 262208 ≡ length r ⌝ }
+{
+    [0; 262208]
+}
 
 // As many bytes of a buffer as n says, or all.
 pub fn upto(n: usize, buffer: &[u8]) -> usize

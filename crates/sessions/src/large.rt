@@ -3,62 +3,40 @@
 use crate::bytes;
 use crate::show;
 use crate::size;
-ghost use mathlib.Core.Path.{_≡_};
-ghost use lib.ListN.{length};
 
-// The input of the most bytes, and some more.
-fn input() -> [u8; 66000]
-    ensures { λ r. ⌜ 66000 ≡ length r ⌝ }
-{
-    [0; 66000]
-}
-
-// The buffer that holds whatever is printed.
-fn output() -> [u8; 262208]
-    ensures { λ r. ⌜ 262208 ≡ length r ⌝ }
-{
-    [0; 262208]
-}
-
+// Runs them all.
 pub fn all() {
-    let mut text = input();
-    let mut out = output();
-    long_lines(&mut text);
-    shapes(&mut text, &mut out);
-    counts(&mut text, &mut out);
-    limits(&mut text, &mut out);
+    long_lines();
+    shapes();
+    counts();
+    limits();
 }
 
 // The longest line that is legible has 198 bytes. Lines of 200 bytes and of 201 are not.
-fn long_lines(text: &mut [u8]) {
-    long_line(b"a line of 198 bytes", b")\n(many 0)\n", text);
-    long_line(b"a line of 200 bytes", b"  )\n(many 0)\n", text);
-    long_line(b"a line of 201 bytes", b"   )\n(many 0)\n", text);
-    long_line(
-        b"a line of 33 numbers and 200 bytes",
-        b" 0)\n(many 0)\n",
-        text,
-    );
+fn long_lines() {
+    long_line(b"a line of 198 bytes", b")\n(many 0)\n");
+    long_line(b"a line of 200 bytes", b"  )\n(many 0)\n");
+    long_line(b"a line of 201 bytes", b"   )\n(many 0)\n");
+    long_line(b"a line of 33 numbers and 200 bytes", b" 0)\n(many 0)\n");
 }
 
 // A list of 32 numbers of five digits, and what stands behind them.
-fn long_line(name: &[u8], behind: &[u8], text: &mut [u8]) {
-    let a = bytes::put(text, 0, b"(machine 1)\n(part 0 (in 0))\n(many");
-    let b = bytes::repeat(text, a, b" 65535", 32);
-    let n = bytes::put(text, b, behind);
-    show::first(name, text, n);
+fn long_line(name: &[u8], behind: &[u8]) {
+    let mut text = bytes::largest_buffer();
+    let a = bytes::put(&mut text, 0, b"(machine 1)\n(part 0 (in 0))\n(many");
+    let b = bytes::repeat(&mut text, a, b" 65535", 32);
+    let n = bytes::put(&mut text, b, behind);
+    show::first(name, &text, n);
 }
 
 // 512 parts in a star, a chain and two chains.
-fn shapes(text: &mut [u8], out: &mut [u8]) {
+fn shapes() {
     of_sheet(
         b"512 parts in a star",
         512,
         512,
         512,
         b"(pair 510 511)\n(pair 511 512)\n(many 1 511 0)\n",
-        text,
-        out,
     );
     of_sheet(
         b"512 parts in a chain",
@@ -66,8 +44,6 @@ fn shapes(text: &mut [u8], out: &mut [u8]) {
         512,
         1,
         b"(pair 511 0)\n(pair 510 511)\n(pair 256 511)\n(many 511 300 400)\n",
-        text,
-        out,
     );
     of_sheet(
         b"512 parts in two chains",
@@ -75,34 +51,26 @@ fn shapes(text: &mut [u8], out: &mut [u8]) {
         512,
         2,
         b"(pair 511 510)\n(pair 511 256)\n(pair 510 2)\n",
-        text,
-        out,
     );
 }
 
 // A line too few, and one too many; 513 parts.
-fn counts(text: &mut [u8], out: &mut [u8]) {
-    of_sheet(b"512 parts, and 511 lines", 512, 511, 1, b"", text, out);
-    of_sheet(b"512 parts, and 513 lines", 512, 513, 1, b"", text, out);
-    of_sheet(b"513 parts in a chain", 513, 513, 1, b"", text, out);
+fn counts() {
+    of_sheet(b"512 parts, and 511 lines", 512, 511, 1, b"");
+    of_sheet(b"512 parts, and 513 lines", 512, 513, 1, b"");
+    of_sheet(b"513 parts in a chain", 513, 513, 1, b"");
 }
 
 // A sheet of n parts of which so many have a line, each bolted into the part `step` before it, or the first; with questions behind it.
-fn of_sheet(
-    name: &[u8],
-    n: usize,
-    lines: usize,
-    step: usize,
-    questions: &[u8],
-    text: &mut [u8],
-    out: &mut [u8],
-) {
-    let a = bytes::number(text, 0, b"(machine ", n, b")\n");
-    let b = parts(text, a, lines, step);
-    let end = bytes::put(text, b, questions);
-    summary(name, text, end, out);
+fn of_sheet(name: &[u8], n: usize, lines: usize, step: usize, questions: &[u8]) {
+    let mut text = bytes::largest_buffer();
+    let a = bytes::number(&mut text, 0, b"(machine ", n, b")\n");
+    let b = parts(&mut text, a, lines, step);
+    let end = bytes::put(&mut text, b, questions);
+    size::summary(name, &text, end);
 }
 
+// Puts the lines of the parts from a place on, and answers the place after them.
 fn parts(text: &mut [u8], at: usize, lines: usize, step: usize) -> usize {
     let mut end = at;
     let mut v = 0;
@@ -113,6 +81,7 @@ fn parts(text: &mut [u8], at: usize, lines: usize, step: usize) -> usize {
     end
 }
 
+// The same for one part.
 fn part(text: &mut [u8], at: usize, v: usize, step: usize) -> usize {
     let parent = if step < v { v - step } else { 0 };
     let mid = bytes::number(text, at, b"(part ", v, b" (in ");
@@ -120,35 +89,23 @@ fn part(text: &mut [u8], at: usize, v: usize, step: usize) -> usize {
 }
 
 // Inputs of 65,536 bytes, one less and one more; and the most questions.
-fn limits(text: &mut [u8], out: &mut [u8]) {
-    lists(b"an input of 65,536 bytes", b"(many 3)\n", text, out);
-    lists(b"an input of 65,535 bytes", b"(many 3)", text, out);
-    lists(b"an input of 65,537 bytes", b"(many 3)\n\n", text, out);
-    filled(b"the most questions", b"(many)\n", 9344, b"", text, out);
+fn limits() {
+    lists(b"an input of 65,536 bytes", b"(many 3)\n");
+    lists(b"an input of 65,535 bytes", b"(many 3)");
+    lists(b"an input of 65,537 bytes", b"(many 3)\n\n");
+    filled(b"the most questions", b"(many)\n", 9344, b"");
 }
 
 // 7,267 lists, and one more.
-fn lists(name: &[u8], last: &[u8], text: &mut [u8], out: &mut [u8]) {
-    filled(name, b"(many 3)\n", 7267, last, text, out);
+fn lists(name: &[u8], last: &[u8]) {
+    filled(name, b"(many 3)\n", 7267, last);
 }
 
 // The known machine, a question so many times, and what stands behind it.
-fn filled(
-    name: &[u8],
-    question: &[u8],
-    times: usize,
-    behind: &[u8],
-    text: &mut [u8],
-    out: &mut [u8],
-) {
-    let a = show::known(text);
-    let b = bytes::repeat(text, a, question, times);
-    let end = bytes::put(text, b, behind);
-    summary(name, text, end, out);
-}
-
-// Runs the first n bytes of a buffer, and prints a summary.
-fn summary(name: &[u8], text: &[u8], n: usize, out: &mut [u8]) {
-    let count = bytes::upto(n, text);
-    size::summary(name, &text[..count], out);
+fn filled(name: &[u8], question: &[u8], times: usize, behind: &[u8]) {
+    let mut text = bytes::largest_buffer();
+    let a = show::known(&mut text);
+    let b = bytes::repeat(&mut text, a, question, times);
+    let end = bytes::put(&mut text, b, behind);
+    size::summary(name, &text, end);
 }

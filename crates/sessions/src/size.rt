@@ -13,6 +13,7 @@ pub fn all() {
     );
 }
 
+// Runs an input in these three buffers.
 fn in_buffers(name: &[u8], input: &[u8]) {
     let needed = console::room(input.len());
     show::title(name);
@@ -21,19 +22,28 @@ fn in_buffers(name: &[u8], input: &[u8]) {
     in_buffer(input, 0);
 }
 
+// One less than n, or 0.
 fn one_less(n: usize) -> usize {
     if n == 0 { 0 } else { n - 1 }
 }
 
+// Runs an input in a buffer of so many bytes, at most 4,096.
 fn in_buffer(input: &[u8], size: usize) {
     let mut out = io::buffer();
     let count = bytes::upto(size, &out);
     show::run(input, &mut out[..count]);
 }
 
-// Runs an input in the largest buffer, and prints how long the text is, its sum and its last 60 bytes.
-pub fn summary(name: &[u8], input: &[u8], out: &mut [u8]) {
+// Runs the first n bytes of a buffer in the largest buffer, and prints how long the text is, its sum and its last 60 bytes.
+pub fn summary(name: &[u8], buffer: &[u8], n: usize) {
+    let mut out = bytes::largest_buffer();
+    let count = bytes::upto(n, buffer);
     show::title(name);
+    run(&buffer[..count], &mut out);
+}
+
+// Runs an input in a buffer, and prints a summary.
+fn run(input: &[u8], out: &mut [u8]) {
     bytes::fill(out, 7);
     match console::run(input, out) {
         Written::Text(n) => sum_of(input.len(), out, n),
@@ -41,6 +51,7 @@ pub fn summary(name: &[u8], input: &[u8], out: &mut [u8]) {
     }
 }
 
+// Prints the summary of a text: how long the input and the text are, its sum, its end.
 fn sum_of(read: usize, out: &[u8], n: usize) {
     let count = bytes::upto(n, out);
     io::print_decimal(1, read as u64);
