@@ -3,9 +3,10 @@
 
     python3 tools/costs.py NAME [ROWS]     from the top of the repository
 
-Checks the crate from nothing by `rt dev NAME`, which keeps each module that it has checked in target/inc/NAME, and goes by the times at which these files were written. A row has a
-function's seconds and the modules that took most of them: `Lts` is the checker's account of the code (what each local is after each step), `Tie` what joins it to the contracts,
-`Proof` the proof. A file of laws or definitions is a row of its own. The crates below are to be proved before, and nothing else should run meanwhile.
+Checks the crate from nothing by `rt dev NAME`, which keeps each module that it has checked in target/inc/NAME, and goes by the times at which these
+files were written. A row has a function's seconds and the modules that took most of them: `Lts` is the checker's account of the code (what each local
+is after each step), `Tie` what joins it to the contracts, `Proof` the proof. A file of laws or definitions is a row of its own. The crates below are
+to be proved before, and nothing else should run meanwhile.
 """
 import collections
 import os
@@ -31,6 +32,8 @@ def said_of(parts):
 
 
 def main(name, rows):
+    if name not in [line.partition(":")[0] for line in pathlib.Path("crates.txt").read_text().splitlines()]:
+        sys.exit("crates.txt lists no crate " + name)
     folder = pathlib.Path("target/inc") / name
     shutil.rmtree(folder, ignore_errors=True)
     said = subprocess.run(["rt", "dev", name], stdout=subprocess.PIPE, stderr=subprocess.STDOUT, text=True).stdout

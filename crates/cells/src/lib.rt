@@ -1,4 +1,5 @@
-// Stretches of cells: filling one, or all, copying one from another buffer, finding the first cell in which two differ, and the first that is too large.
+// Stretches of cells: filling one, or all, clearing all, copying one from another buffer, finding the first cell in which two differ, and the first that is
+// too large.
 
 ghost use mathlib.Core.Path.{_≡_};
 ghost use Prim.Native.Nat.{ℕ, _+_, _≤_, _<_};
