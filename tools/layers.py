@@ -14,7 +14,7 @@ import sys
 LAYERS = [
     ["bits", "tree", "cells", "preorder", "labels", "rows", "rooted", "tables"],
     ["rules", "lifting", "routes"],
-    ["text", "console", "report", "lca"],
+    ["text", "lines", "console", "report", "lca"],
 ]
 COMMON = {"bits", "tree"}
 # programs that try the library, beside the layers

@@ -22,7 +22,7 @@ use Rattle.tree.proofs.Questions.{question-parts, question-accepted}
 use Rattle.tree.proofs.Claims.{one-carrier}
 use Rattle.tree.proofs.Owning.{question-decides}
 use Rattle.routes.specs.Answers.{Asked, TrailGives, ListGives}
-use Rattle.console.specs.Forms.{pair, many}
+use Rattle.lines.specs.Forms.{pair, many}
 use Rattle.console.specs.Print.{pairLine, manyLine, given}
 use Rattle.console.specs.Run.{answer}
 use Rattle.console.specs.Gives.{Stands}

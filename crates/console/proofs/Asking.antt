@@ -14,11 +14,12 @@ use Rattle.text.specs.Bytes.{lf}
 use Rattle.text.specs.Lines.{Lines, tail, line, before, lines}
 use Rattle.text.specs.Puts.{Room, Puts}
 use Rattle.text.proofs.Putting.{puts-none, puts-length, puts-then, room-first, room-then}
-use Rattle.console.specs.Forms.{Query, Form, machine, part, asked}
-use Rattle.console.specs.Read.{read, next, query, nextAs}
+use Rattle.lines.specs.Forms.{Query, Form, machine, part, asked}
+use Rattle.lines.specs.Read.{read, next, query, nextAs}
+use Rattle.lines.specs.Gives.{queryOf}
+use Rattle.lines.specs.declared.form.Question.{Question}
 use Rattle.console.specs.Run.{illegible, answer, leftover, questions}
-use Rattle.console.specs.Gives.{queryOf, asksOf, AsksGive}
-use Rattle.console.specs.declared.form.Question.{Question}
+use Rattle.console.specs.Gives.{asksOf, AsksGive}
 use Rattle.console.specs.declared.ask.Asks.{Asks}
 use Rattle.console.specs.declared.ask.Asks.the-variants as asks
 

@@ -1,4 +1,4 @@
--- What a run prints has room: at most four bytes for each byte of the input, and 64.
+-- What a run prints has room: `perByte` bytes for each byte of the input, and `besides` more.
 -- Assumes nothing.
 use Prim.Native.Nat.{ℕ, zero, suc, _+_, _*_, _≤_, _<_}
 use native.Mathlib.Omega.{arith}
@@ -9,19 +9,20 @@ use borrow.Author.Tests.{leb-true, leb-false}
 use borrow.Table.Steps.{cases}
 use lib.Dec.{leb, eqb}
 use lib.ListN.{length, length-append}
-use Rattle.tree.specs.Verdict.{accepted}
-use Rattle.tree.specs.Tests.{verdict, empty, tooLarge, sheetTests, Accepted}
+use Rattle.tree.specs.Verdict.{Verdict, accepted, refused}
+use Rattle.tree.specs.Tests.{verdict, tooLarge, sheetTests, Accepted}
 use Rattle.tree.proofs.Verdicts.{accepted-passed}
 use Rattle.text.specs.Bytes.{bytes, lf}
 use Rattle.text.specs.Lines.{Lines, tail, line, before, lines}
 use Rattle.text.proofs.Numerals.{one-reading}
-use Rattle.console.specs.Forms.{Query, Form, machine, part, asked, text}
-use Rattle.console.specs.Read.{read, next, machineCount, entry, query, nextAs}
-use Rattle.console.specs.Print.{machineLine}
-use Rattle.console.specs.Run.{most, illegible, answer, leftover, questions}
+use Rattle.lines.specs.Forms.{Query, Form, machine, part, asked, text}
+use Rattle.lines.specs.Read.{read, next, machineCount, entry, query, nextAs}
+use Rattle.lines.specs.Machine.{most, countTests, turnedAway, byCount, opening}
+use Rattle.lines.proofs.Legible.{first-read, read-exactly}
+use Rattle.console.specs.Print.{machineLine, given}
+use Rattle.console.specs.Run.{illegible, answer, leftover, questions}
 use Rattle.console.specs.Run.{Sheet, sheet, broken, first, partLine, parts, sheetRun, machineRun, run, mostBytes, output}
-use Rattle.console.specs.Whole.{room}
-use Rattle.console.proofs.Legible.{first-read, read-exactly}
+use Rattle.console.specs.Whole.{perByte, besides, room}
 use Rattle.console.proofs.Lengths.{Short, refusal-length, given-length, count-shorts, sheet-shorts, answer-length}
 
 -- ---- lines
@@ -84,7 +85,7 @@ query-is (part v p) q e = absurd (Option·none-ne-some q e)
 query-is (asked p) q e = ap asked (Option·some-inj .0 e)
 
 -- a question that was read, and its answer
-question-length : (s : List ℕ) → Accepted s → (b : List ℕ) (q : Query) → bind (read b) query ≡ some q → length (answer s q) ≤ 4 * suc (length b)
+question-length : (s : List ℕ) → Accepted s → (b : List ℕ) (q : Query) → bind (read b) query ≡ some q → length (answer s q) ≤ perByte * suc (length b)
 question-length s a b q e =
     first-read (read b) query e λ f p r.
     let (is, legal) = rw (query-is f q r) at (read-exactly b f .0 p) in
@@ -92,13 +93,13 @@ question-length s a b q e =
 
 -- the answers to all questions, and the last refusal. A line's number grows by one with each line, which has at least its LF
 questions-length : (s : List ℕ) → Accepted s → (number : ℕ) (ls : Lines) → Short (number + byteCount ls)
-    → length (questions s number ls) ≤ 4 * byteCount ls + 27
+    → length (questions s number ls) ≤ perByte * byteCount ls + 27
 unfolding questions Option·elim byteCount
 questions-length s a number (tail b) h = let last = leftover-length number b (omega arith) in omega arith
 questions-length s a number (line b rest) h = by-question (bind (read b) query) refl (questions-length s a (suc number) rest (omega arith))
   where
-    by-question : (o : Option Query) → bind (read b) query ≡ o → length (questions s (suc number) rest) ≤ 4 * byteCount rest + 27
-        → length (Option·elim o (illegible number) (λ q. answer s q ++ questions s (suc number) rest)) ≤ 4 * suc (length b + byteCount rest) + 27
+    by-question : (o : Option Query) → bind (read b) query ≡ o → length (questions s (suc number) rest) ≤ perByte * byteCount rest + 27
+        → length (Option·elim o (illegible number) (λ q. answer s q ++ questions s (suc number) rest)) ≤ perByte * suc (length b + byteCount rest) + 27
     by-question none e later = let last = illegible-length number (omega arith) in omega arith
     by-question (some q) e later = let here = question-length s a b q e in simp length-append (omega arith)
 
@@ -129,10 +130,10 @@ parts-read (suc k) v ls = by-line (nextAs (entry v) ls) refl (parts-read k (suc 
         first-part k v p ls rest (parts k (suc v) rest) (omega (arith, line-was .bytes-are)) (later rest)
 
 -- what is printed from the part lines on
-sheet-length : (n : ℕ) (ls : Lines) (r : Sheet) → n ≤ most → byteCount ls ≤ mostBytes → PartsRead n 0 ls r → length (sheetRun r) ≤ 4 * byteCount ls + 27
+sheet-length : (n : ℕ) (ls : Lines) (r : Sheet) → n ≤ most → byteCount ls ≤ mostBytes → PartsRead n 0 ls r → length (sheetRun r) ≤ perByte * byteCount ls + 27
 unfolding sheetRun PartsRead
 sheet-length n ls (sheet s rest) h k (all, left) =
-    given-length (sheetTests s 0) (questions s (partLine (length s)) rest) (4 * byteCount ls + 27) (sheet-shorts s (omega arith)) (omega arith)
+    given-length (sheetTests s 0) (questions s (partLine (length s)) rest) (perByte * byteCount ls + 27) (sheet-shorts s (omega arith)) (omega arith)
     (λ a. let after = questions-length s a (partLine (length s)) rest (omega arith) in omega arith)
 sheet-length n ls (broken number) h k b = let last = illegible-length number (omega arith) in omega arith
 
@@ -146,29 +147,37 @@ count-is (part v p) n e = absurd (Option·none-ne-some n e)
 count-is (asked q) n e = absurd (Option·none-ne-some n e)
 
 -- a count that is accepted is at most 512
-count-most : (n : ℕ) → verdict (empty n ∷ tooLarge most n ∷ []) ≡ accepted → n ≤ most
+count-most : (n : ℕ) → verdict (countTests n) ≡ accepted → n ≤ most
 unfolding tooLarge
-count-most n e = let (_, (small, _)) = accepted-passed (empty n ∷ tooLarge most n ∷ []) e in leb-true n most small
+count-most n e = let (_, (small, _)) = accepted-passed (countTests n) e in leb-true n most small
 
 -- the machine line is repeated, as long as it was
 machine-line-length : (n : ℕ) → length (machineLine n) ≡ suc (length (text (machine n)))
 unfolding machineLine text bytes
 machine-line-length n = simp length-append (omega arith)
 
+-- what is printed by the verdict of a count
+count-prints : (v : Verdict) (n : ℕ) (ls : Lines) → machineRun (byCount v n ls) ≡ given v (machineLine n ++ sheetRun (parts n 0 ls))
+unfolding byCount machineRun given
+count-prints accepted n ls = refl
+count-prints (refused number place) n ls = refl
+
 -- what is printed from the machine line's count on
-machine-length : (n : ℕ) (ls : Lines) → byteCount ls ≤ mostBytes → length (machineRun n ls) ≤ length (machineLine n) + (4 * byteCount ls + 27)
-unfolding machineRun
+machine-length : (n : ℕ) (ls : Lines) → byteCount ls ≤ mostBytes
+    → length (machineRun (byCount (verdict (countTests n)) n ls)) ≤ length (machineLine n) + (perByte * byteCount ls + 27)
 machine-length n ls h =
-    given-length (empty n ∷ tooLarge most n ∷ []) _ _ (count-shorts n) (omega arith)
-    (λ a. let after = sheet-length n ls (parts n 0 ls) (count-most n a) h (parts-read n 0 ls) in simp length-append (omega arith))
+    rw (count-prints (verdict (countTests n)) n ls)
+    (given-length (countTests n) _ _ (count-shorts n) (omega arith)
+    (λ a. let after = sheet-length n ls (parts n 0 ls) (count-most n a) h (parts-read n 0 ls) in simp length-append (omega arith)))
 
 -- what is printed of all lines
-run-length : (ls : Lines) → byteCount ls ≤ mostBytes → length (run ls) ≤ 4 * byteCount ls + 64
-unfolding run Option·elim
+run-length : (ls : Lines) → byteCount ls ≤ mostBytes → length (run ls) ≤ perByte * byteCount ls + besides
+unfolding opening machineRun run Option·elim
 run-length ls h = by-line (nextAs machineCount ls) refl
   where
     by-line : (o : Option (ℕ × Lines)) → nextAs machineCount ls ≡ o
-        → length (Option·elim o (illegible 1) (λ found. machineRun (found .0) (found .1))) ≤ 4 * byteCount ls + 64
+        → length (machineRun (Option·elim o (turnedAway 12 1) (λ found. byCount (verdict (countTests (found .0))) (found .0) (found .1))))
+        ≤ perByte * byteCount ls + besides
     by-line none e = let last = illegible-length 1 (omega arith) in omega arith
     by-line (some (n, rest)) e =
         let line-was = took machineCount ls n rest e in

@@ -3,15 +3,18 @@
 use Prim.Native.Nat.{ℕ, _≤_, _<_}
 use native.Mathlib.Omega.{arith}
 use mathlib.Core.Path.{_≡_, refl, sym, ap, _∙_}
-use mathlib.Core.List.{List}
+use mathlib.Core.List.{List, _++_}
 use borrow.Author.Tests.{le-leb, lt-leb}
-use lib.ListN.{length}
+use lib.ListN.{length, drop}
+use Rattle.text.specs.Lines.{lines}
 use Rattle.text.specs.Puts.{Room, Puts}
 use Rattle.text.proofs.Putting.{over-start}
-use Rattle.console.specs.Run.{mostBytes, illegible, output}
-use Rattle.console.specs.Gives.{startText, StartGives}
+use Rattle.lines.specs.Gives.{openingOf, StartGives}
+use Rattle.lines.specs.declared.machine.Start.{Start}
+use Rattle.lines.specs.declared.machine.Start.the-variants.{Parts, Refused}
+use Rattle.console.specs.Print.{refusalLine, machineLine}
+use Rattle.console.specs.Run.{mostBytes, illegible, parts, sheetRun, machineRun, run, output}
 use Rattle.console.specs.Whole.{room, RunGives}
-use Rattle.console.specs.declared.sheet.Start.{Start}
 use Rattle.console.specs.declared.Written.the-variants.{Text, Short}
 use Rattle.console.proofs.Bounds.{output-bound}
 
@@ -20,10 +23,21 @@ pub output-above : (input : List ℕ) → mostBytes < length input → illegible
 unfolding output
 output-above input h = rw (lt-leb (length input) mostBytes h) refl
 
--- one within it, by what its machine line gave
+-- what is printed by what the machine line gave
+abbrev pub startText : List ℕ → Start → List ℕ
+startText input (Parts n end) = machineLine n ++ sheetRun (parts n 0 (lines (drop end input)))
+startText input (Refused why) = refusalLine why
+
+-- that is what the opening prints
+start-prints : (input : List ℕ) (r : Start) → startText input r ≡ machineRun (openingOf input r)
+unfolding machineRun
+start-prints input (Parts n end) = refl
+start-prints input (Refused why) = refl
+
+-- an input within the limit prints it
 pub output-within : {input : List ℕ} {r r′ : Start} → length input ≤ mostBytes → StartGives input r → r ≡ r′ → startText input r′ ≡ output input
-unfolding output
-output-within {input} h g e = rw e at (g .is) ∙ rw (le-leb (length input) mostBytes h) refl
+unfolding run output
+output-within {input} {r} h g e = rw e at (start-prints input r ∙ ap machineRun (g .is)) ∙ rw (le-leb (length input) mostBytes h) refl
 
 -- there is room for it
 pub output-room : (input out : List ℕ) {text : List ℕ} → room (length input) ≤ length out → text ≡ output input → Room out 0 text

@@ -11,7 +11,7 @@ use lib.ListN.{length, take, drop, set, length-set}
 use lib.Seq.{take-all, take-suc-set}
 use Rattle.tree.specs.Tables.{Lent}
 use Rattle.text.specs.Lines.{Lines, lines}
-use Rattle.console.specs.Read.{entry, nextAs}
+use Rattle.lines.specs.Read.{entry, nextAs}
 use Rattle.console.specs.Run.{Sheet, sheet, broken, first, partLine, parts}
 use Rattle.console.specs.Gives.{EntryGives, sheetOf, EntriesGive, Sized}
 use Rattle.console.specs.declared.sheet.Entry.{Entry}

@@ -22,10 +22,12 @@ use Rattle.tree.proofs.Questions.{question-parts, question-accepted}
 use Rattle.tree.proofs.Claims.{trail-rows}
 use Rattle.text.specs.Bytes.{bytes, wordNumber}
 use Rattle.text.proofs.Decimals.{decimal-some}
-use Rattle.console.specs.Forms.{Query, pair, many, asked, text, mostListed, Legal}
+use Rattle.lines.specs.Forms.{Query, pair, many, asked, text, mostListed, Legal}
+use Rattle.lines.specs.Machine.{most, countTests}
+use Rattle.lines.proofs.Legible.{five-digits}
 use Rattle.console.specs.Print.{refusal, pairLine, manyLine, given}
-use Rattle.console.specs.Run.{most, answer}
-use Rattle.console.proofs.Legible.{five-digits}
+use Rattle.console.specs.Run.{answer}
+use Rattle.console.specs.Whole.{perByte}
 use Rattle.console.proofs.Carriers.{carrier-small}
 
 -- ---- numbers and refusals
@@ -58,7 +60,7 @@ given-length (t ∷ ts) b m h low fits =
     (λ e. rw e (le-trans (refusal-length (testNumber t) (testPlace t) (h .0) (h .1)) low))
 
 -- those of the tests of a machine's count
-pub count-shorts : (n : ℕ) → Shorts (empty n ∷ tooLarge most n ∷ [])
+pub count-shorts : (n : ℕ) → Shorts (countTests n)
 unfolding empty tooLarge
 count-shorts n = omega arith
 
@@ -79,9 +81,9 @@ question-shorts s question h = let off = least-le (offSheet s question) (length 
 
 -- ---- answers
 
--- four bytes for each byte of a question's line, with its LF
-abbrev worth : Query → ℕ
-worth q = 4 * suc (length (text (asked q)))
+-- the bytes that are printed at most for a question's line, with its LF
+abbrev pub worth : Query → ℕ
+worth q = perByte * suc (length (text (asked q)))
 
 -- a refusal is no longer
 refusal-fits : (q : Query) → 27 ≤ worth q
@@ -121,8 +123,8 @@ module _ (s : List ℕ) (a : Accepted s) where
       let few = trail-fits s (accepted-tree s a .1) x y in
       omega arith
 
-  -- an answer has at most four bytes for each byte of its line
-  pub answer-length : (q : Query) → Legal (asked q) → length (answer s q) ≤ 4 * suc (length (text (asked q)))
+  -- an answer has at most `perByte` bytes for each byte of its line
+  pub answer-length : (q : Query) → Legal (asked q) → length (answer s q) ≤ worth q
   unfolding answer
   answer-length (pair x y) h =
       given-length (questionTests s 0 (x ∷ y ∷ [])) _ (worth (pair x y)) (question-shorts s (x ∷ y ∷ []) (omega arith)) (refusal-fits (pair x y))

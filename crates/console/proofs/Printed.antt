@@ -9,7 +9,7 @@ use lib.Seq.{take-suc, drop-cons}
 use Rattle.text.specs.Bytes.{bytes, wordNumber}
 use Rattle.text.specs.Puts.{Room, Puts}
 use Rattle.text.proofs.Putting.{room-first, room-then, puts-then}
-use Rattle.console.specs.Forms.{listText}
+use Rattle.lines.specs.Forms.{listText}
 
 -- a number behind a space
 abbrev pub spaced : ℕ → List ℕ

@@ -6,7 +6,7 @@ use native.Mathlib.Omega.{arith}
 use Rattle.bits.specs.Bits.{log2}
 use Rattle.bits.proofs.Log.{log2-le}
 use Rattle.tree.specs.Buffers.{visits, tourCells, liftCells}
-use Rattle.console.specs.Run.{most}
+use Rattle.lines.specs.Machine.{most}
 
 -- 1,023 visits, in 11 rows, and a cell for each part
 pub tour-small : (n : ℕ) → n ≤ most → tourCells n ≤ 11765

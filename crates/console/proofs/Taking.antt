@@ -1,89 +1,24 @@
--- What a place takes of the next line, from what `reader::next_line` gives: the line as the place takes it, or nothing.
+-- What the place of a part line and that of a question take of the next line, from what `lines::next_line` gives.
 -- Assumes nothing.
 use Prim.Native.Nat.{ℕ}
 use native.Mathlib.Omega.{arith}
-use mathlib.Core.Path.{_≡_, refl, sym, ap, _∙_}
+use mathlib.Core.Path.{_≡_, refl}
 use mathlib.Core.List.{List}
-use mathlib.Core.Option.{Option, none, some, Option·elim, bind}
+use mathlib.Core.Option.{none, some}
 use borrow.Author.Tests.{eq-eqb, ne-eqb}
 use lib.ListN.{drop}
-use Rattle.tree.specs.declared.Refusal.the-variants.{MalformedLine}
-use Rattle.text.specs.Lines.{Lines, lines}
-use Rattle.console.specs.Forms.{Form}
-use Rattle.console.specs.Read.{next, machineCount, entry, query, nextAs}
-use Rattle.console.specs.Run.{run}
-use Rattle.console.specs.Gives.{formOf, nextOf, Further, NextGives, AdmitGives, StartGives, EntryGives, AsksGive}
-use Rattle.console.specs.declared.form.Question.{Question}
-use Rattle.console.specs.declared.form.Line.{Line}
-use Rattle.console.specs.declared.form.Line.the-variants.{Machine, Part, Asked}
-use Rattle.console.specs.declared.form.Reading.{Reading}
-use Rattle.console.specs.declared.form.Reading.the-variants.{Legible, Illegible}
-use Rattle.console.specs.declared.reader.Next.{Next}
-use Rattle.console.specs.declared.sheet.Start.{Start}
-use Rattle.console.specs.declared.sheet.Start.the-variants as start
+use Rattle.text.specs.Lines.{lines}
+use Rattle.lines.specs.Read.{entry, query, nextAs}
+use Rattle.lines.specs.Gives.{formOf, NextGives}
+use Rattle.lines.specs.declared.form.Question.{Question}
+use Rattle.lines.specs.declared.form.Line.{Line}
+use Rattle.lines.specs.declared.form.Line.the-variants.{Machine, Part, Asked}
+use Rattle.lines.specs.declared.form.Reading.the-variants.{Legible, Illegible}
+use Rattle.lines.specs.declared.reader.Next.{Next}
+use Rattle.lines.proofs.Taking.{takes, takes-other, takes-none}
+use Rattle.console.specs.Gives.{Further, EntryGives, AsksGive}
 use Rattle.console.specs.declared.sheet.Entry.the-variants as parent
 use Rattle.console.specs.declared.ask.Asks.the-variants as asks
-
--- ---- any place
-
--- a line that was read, as a place takes it
-unfoldable takenAs : {A : Type 0} → (Form → Option A) → Option (Form × Lines) → Option (A × Lines)
-takenAs take found = bind found (λ x. bind (take (x .0)) (λ a. some (a, x .1)))
-
--- the next line is read, and so taken
-next-taken : {A : Type 0} (take : Form → Option A) (ls : Lines) → nextAs take ls ≡ takenAs take (next ls)
-unfolding takenAs nextAs
-next-taken take ls = refl
-
-module _ {A : Type 0} (take : Form → Option A) {input : List ℕ} {at : ℕ} {beside : List ℕ} {r : Next} (g : NextGives input at beside r) where
-  -- what was read decides
-  by-reading : {read : Reading} → r .line ≡ read → takenAs take (nextOf input beside (r .end) read) ≡ nextAs take (lines (drop at input))
-  by-reading e =
-      ap (λ (x : Reading). takenAs take (nextOf input beside (r .end) x)) (sym e)
-      ∙ ap (takenAs take) (g .is)
-      ∙ sym (next-taken take (lines (drop at input)))
-
-  -- a line was read that the place takes
-  takes : {l : Line} {a : A} → r .line ≡ Legible l → take (formOf beside l) ≡ some a
-      → some (a, lines (drop (r .end) input)) ≡ nextAs take (lines (drop at input))
-  unfolding takenAs bind
-  takes e t = rw t at (by-reading e)
-
-  -- one was read that the place does not take
-  takes-other : {l : Line} → r .line ≡ Legible l → take (formOf beside l) ≡ none → none ≡ nextAs take (lines (drop at input))
-  unfolding takenAs bind
-  takes-other e t = rw t at (by-reading e)
-
-  -- none was read
-  takes-none : r .line ≡ Illegible → none ≡ nextAs take (lines (drop at input))
-  unfolding takenAs bind
-  takes-none e = by-reading e
-
--- ---- the machine line
-
--- there is none
-no-start : {input : List ℕ} → none ≡ nextAs machineCount (lines input) → StartGives input (start.Refused (MalformedLine 1))
-unfolding run Option·elim
-no-start e = record { is = rw (sym e) refl; within = λ n end q. let z : _≡_ {A = ℕ} 0 1 = cc in absurd (omega arith) }
-
-module _ {input beside : List ℕ} {r : Next} (g : NextGives input 0 beside r) where
-  -- no line was read
-  pub start-unread : r .line ≡ Illegible → StartGives input (start.Refused (MalformedLine 1))
-  start-unread e = no-start (takes-none machineCount g e)
-
-  -- a line was read that is no machine's
-  pub start-other : {l k : Line} → r .line ≡ Legible l → l ≡ k → machineCount (formOf beside k) ≡ none → StartGives input (start.Refused (MalformedLine 1))
-  start-other e same t = no-start (takes-other machineCount g e (rw same t))
-
-  -- a machine's was, whose count is tested
-  pub start-machine : {l : Line} {n : ℕ} {s : Start} → r .line ≡ Legible l → l ≡ Machine n → AdmitGives n (r .end) s → StartGives input s
-  unfolding machineCount run Option·elim
-  start-machine {l} {n} e k a =
-      let t : machineCount (formOf beside l) ≡ some n = rw k refl in
-      record {
-        is = a .is input ∙ rw (sym (takes machineCount g e t)) refl;
-        within = λ m d q. let (some-parts, few, there) = a .within m d q in (some-parts, few, omega arith);
-      }
 
 -- ---- a part line
 

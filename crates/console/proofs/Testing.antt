@@ -18,8 +18,9 @@ use Rattle.tree.proofs.Fits.{fitting-none}
 use Rattle.tree.proofs.Stages.{stage-yes, stage-clear}
 use Rattle.tables.specs.Lend.{BuildGives}
 use Rattle.text.specs.Lines.{Lines}
+use Rattle.lines.specs.Machine.{most}
 use Rattle.console.specs.Print.{given}
-use Rattle.console.specs.Run.{most, partLine, questions, sheet, sheetRun}
+use Rattle.console.specs.Run.{partLine, questions, sheet, sheetRun}
 use Rattle.console.specs.Gives.{Stands, Sized}
 use Rattle.console.proofs.Answering.{given-refused, given-accepted}
 

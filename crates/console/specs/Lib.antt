@@ -1,5 +1,3 @@
-pub mod Forms
-pub mod Read
 pub mod Print
 pub mod Run
 pub mod Gives

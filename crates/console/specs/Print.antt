@@ -5,7 +5,7 @@ use mathlib.Core.List.{List, _++_}
 use Rattle.text.specs.Bytes.{bytes, wordNumber}
 use Rattle.tree.specs.declared.Refusal.{Refusal}
 use Rattle.tree.specs.Verdict.{Verdict, accepted, refused, numberOf, placeOf}
-use Rattle.console.specs.Forms.{listText}
+use Rattle.lines.specs.Forms.{listText}
 
 -- "prints `(refused N (at P))`"
 unfoldable pub refusal : ℕ → ℕ → List ℕ

@@ -7,17 +7,14 @@ use mathlib.Core.Option.{Option·elim, bind}
 use lib.Dec.{leb}
 use lib.ListN.{length}
 use Rattle.tree.specs.declared.Refusal.the-variants.{MalformedLine}
-use Rattle.tree.specs.Tests.{verdict, empty, tooLarge, sheetTests, questionTests}
+use Rattle.tree.specs.Tests.{verdict, sheetTests, questionTests}
 use Rattle.tree.specs.Lca.{lca}
 use Rattle.tree.specs.Trail.{liftCount}
 use Rattle.text.specs.Lines.{Lines, tail, line, lines}
-use Rattle.console.specs.Forms.{Query, pair, many}
-use Rattle.console.specs.Read.{read, machineCount, entry, query, nextAs}
-use Rattle.console.specs.Print.{refusalLine, machineLine, pairLine, manyLine, given}
-
--- "1 to 512 in the program"
-abbrev pub most : ℕ
-most = 512
+use Rattle.lines.specs.Forms.{Query, pair, many}
+use Rattle.lines.specs.Read.{read, entry, query, nextAs}
+use Rattle.lines.specs.Machine.{Opening, machineOf, turnedAway, opening}
+use Rattle.console.specs.Print.{refusal, refusalLine, machineLine, pairLine, manyLine, given}
 
 -- the line of an illegible line, at the line's number
 abbrev pub illegible : ℕ → List ℕ
@@ -79,12 +76,13 @@ sheetRun (broken number) = illegible number
 
 -- ---- the machine
 
--- "A machine count that meets 1 or 2 is refused before its part lines"; one that passes is repeated, "whatever follows"
-unfoldable pub machineRun : ℕ → Lines → List ℕ
-machineRun n ls = given (verdict (empty n ∷ tooLarge most n ∷ [])) (machineLine n ++ sheetRun (parts n 0 ls))
+-- a machine's count that passed tests 1 and 2 is repeated, "whatever follows"; an input that is turned away prints its refusal alone
+unfoldable pub machineRun : Opening → List ℕ
+machineRun (machineOf n rest) = machineLine n ++ sheetRun (parts n 0 rest)
+machineRun (turnedAway number place) = refusal number place
 
 unfoldable pub run : Lines → List ℕ
-run ls = Option·elim (nextAs machineCount ls) (illegible 1) λ found. machineRun (found .0) (found .1)
+run ls = machineRun (opening ls)
 
 -- the most bytes of an input
 abbrev pub mostBytes : ℕ

@@ -15,9 +15,20 @@ abbrev pub writtenOf : Written → Bool × ℕ
 writtenOf (Text bytes) = (true, bytes)
 writtenOf (Short bytes) = (false, bytes)
 
+-- how many bytes are printed at most for each byte of an input, and how many besides
+abbrev pub perByte : ℕ
+perByte = 4
+
+abbrev pub besides : ℕ
+besides = 64
+
 -- how many bytes hold whatever is printed for an input of so many bytes
 abbrev pub room : ℕ → ℕ
-room bytes = 4 * min bytes mostBytes + 64
+room bytes = perByte * min bytes mostBytes + besides
+
+-- and for any input
+abbrev pub mostRoom : ℕ
+mostRoom = perByte * mostBytes + besides
 
 -- a buffer has them
 abbrev pub holds : List ℕ → List ℕ → Bool

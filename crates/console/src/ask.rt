@@ -1,21 +1,23 @@
 // The questions, one by one, of an accepted sheet with its own tables. Each is a call of `routes`, which tests its input and compares the tables itself.
 
-use crate::form;
-use crate::form::Line;
-use crate::form::Question;
-use crate::form::Reading;
 use crate::print;
-use crate::reader;
+use lines::Line;
+use lines::Question;
+use lines::Reading;
 use tree::Outcome;
 use tree::Refusal;
 use tree::Traced;
 ghost use Prim.Native.Nat.{_≤_};
+ghost use mathlib.Core.Path.{_≡_};
 ghost use lib.ListN.{length, drop};
 ghost use Rattle.text.specs.Lines.{lines};
 ghost use Rattle.text.specs.Puts.{Room, Puts};
-ghost use Rattle.console.specs.Forms.{mostListed, pair as Forms·pair, many as Forms·many};
-ghost use Rattle.console.specs.Run.{most, partLine, answer as Run·answer, questions as Run·questions};
-ghost use Rattle.console.specs.Gives.{queryOf, listedBy, AsksGive, Stands};
+ghost use Rattle.lines.specs.Forms.{mostListed, pair as Forms·pair, many as Forms·many};
+ghost use Rattle.lines.specs.Machine.{most};
+ghost use Rattle.lines.specs.Gives.{queryOf, listedBy};
+ghost use Rattle.console.specs.Run.{partLine, answer as Run·answer, questions as Run·questions};
+ghost use Rattle.console.specs.Gives.{AsksGive, Stands};
+ghost use Rattle.tree.specs.Verdict.{told as Verdict·told};
 ghost use Rattle.tree.specs.Tables.{lentBy};
 
 // What a question line gives: the question, and the position after the line.
@@ -42,7 +44,7 @@ pub(crate) fn questions(
     requires { ⌜ Room (now out) put (Run·questions (now parents) first (lines (drop at (now input)))) ⌝ }
     ensures { λ r. ⌜ Puts (now (out .entry)) put (Run·questions (now (parents .entry)) first (lines (drop at (now (input .entry))))) (now (out .exit)) r ⌝ }
 {
-    let mut beside = [0u16; form::MOST_LISTED];
+    let mut beside = [0u16; lines::MOST_LISTED];
     let mut i = at;
     let mut number = first;
     let mut next = put;
@@ -62,7 +64,7 @@ fn question(input: &[u8], at: usize, beside: &mut [u16]) -> Asks
     requires { ⌜ (at ≤ length (now input)) × (mostListed ≤ length (now beside)) ⌝ }
     ensures { λ r. ⌜ AsksGive (now (input .entry)) at (now (beside .exit)) r ⌝ }
 {
-    let next = reader::next_line(input, at, beside);
+    let next = lines::next_line(input, at, beside);
     let reading = next.line;
     let Reading::Legible(line) = reading else {
         return Asks::Illegible;
@@ -126,9 +128,19 @@ fn pair(
         &mut rows,
     );
     let Traced::Lifts(lifts) = r else {
-        return print::traced(out, put, r);
+        return print::outcome(out, put, told(r));
     };
     print::pair(out, put, x as usize, y as usize, answer[0] as usize, lifts)
+}
+
+// A trail's answer as an outcome.
+fn told(r: Traced) -> Outcome
+    ensures { λ q. ⌜ q ≡ Verdict·told r ⌝ }
+{
+    match r {
+        Traced::Lifts(_) => Outcome::Accepted,
+        Traced::Refused(why) => Outcome::Refused(why),
+    }
 }
 
 // Answers a list.

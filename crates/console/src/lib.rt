@@ -2,14 +2,14 @@
 // lines and prints lines; what carries what is answered by the calls of `routes`, of tables that a call of `tables` built.
 
 mod ask;
-mod form;
 mod print;
-mod reader;
 mod sheet;
 mod size;
 
 use crate::sheet::Entries;
-use crate::sheet::Start;
+use lines::Start;
+pub use size::MOST_BYTES;
+pub use size::MOST_ROOM;
 pub use size::room;
 use tree::Outcome;
 use tree::Refusal;
@@ -19,7 +19,8 @@ ghost use lib.ListN.{length, drop};
 ghost use Rattle.text.specs.Lines.{lines};
 ghost use Rattle.text.specs.Puts.{Room, Puts};
 ghost use Rattle.console.specs.Print.{machineLine};
-ghost use Rattle.console.specs.Run.{most, sheet as Run·sheet, parts, sheetRun, output};
+ghost use Rattle.lines.specs.Machine.{most};
+ghost use Rattle.console.specs.Run.{sheet as Run·sheet, parts, sheetRun, output};
 ghost use Rattle.console.specs.Gives.{Sized};
 ghost use Rattle.console.specs.Whole.{room as Whole·room, RunGives};
 ghost use Rattle.tree.specs.Tables.{lentBy};
@@ -49,7 +50,7 @@ fn text(input: &[u8], out: &mut [u8]) -> usize
     if size::MOST_BYTES < input.len() {
         return print::refusal(out, 0, Refusal::MalformedLine(1));
     }
-    match sheet::machine_line(input) {
+    match lines::machine_line(input) {
         Start::Parts(n, at) => machine(input, at, n, out),
         Start::Refused(why) => print::refusal(out, 0, why),
     }

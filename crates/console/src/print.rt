@@ -2,11 +2,10 @@
 
 use tree::Outcome;
 use tree::Refusal;
-use tree::Traced;
 ghost use mathlib.Core.List.{[]};
-ghost use Rattle.tree.specs.Verdict.{verdictOf, told};
+ghost use Rattle.tree.specs.Verdict.{verdictOf};
 ghost use Rattle.text.specs.Puts.{Room, Puts};
-ghost use Rattle.console.specs.Forms.{listText};
+ghost use Rattle.lines.specs.Forms.{listText};
 ghost use Rattle.console.specs.Print.{refusalLine, machineLine, pairLine, manyLine, given};
 
 // The line of a refusal.
@@ -30,17 +29,6 @@ pub(crate) fn outcome(out: &mut [u8], at: usize, r: Outcome) -> usize
     match r {
         Outcome::Accepted => at,
         Outcome::Refused(why) => refusal(out, at, why),
-    }
-}
-
-// The same of a pair that was traced.
-pub(crate) fn traced(out: &mut [u8], at: usize, r: Traced) -> usize
-    requires { ⌜ Room (now out) at (given (verdictOf (told r)) []) ⌝ }
-    ensures { λ next. ⌜ Puts (now (out .entry)) at (given (verdictOf (told r)) []) (now (out .exit)) next ⌝ }
-{
-    match r {
-        Traced::Lifts(_) => at,
-        Traced::Refused(why) => refusal(out, at, why),
     }
 }
 

@@ -1,23 +1,11 @@
-// The machine line and the part lines.
+// The part lines.
 
-use crate::form;
-use crate::form::Line;
-use crate::form::Reading;
-use crate::reader;
-use tree::Refusal;
+use lines::Line;
+use lines::Reading;
 ghost use Prim.Native.Nat.{_≤_};
 ghost use lib.ListN.{length};
-ghost use Rattle.console.specs.Forms.{mostListed};
-ghost use Rattle.console.specs.Gives.{AdmitGives, StartGives, EntryGives, EntriesGive};
-
-// The most parts that the program takes.
-const MOST: u16 = 512;
-
-// What the machine line gives: how many parts, and the position after it; or the refusal that ends the run.
-pub(crate) enum Start {
-    Parts(usize, usize),
-    Refused(Refusal),
-}
+ghost use Rattle.lines.specs.Forms.{mostListed};
+ghost use Rattle.console.specs.Gives.{EntryGives, EntriesGive};
 
 // What a part line gives: the entry, and the position after the line.
 pub(crate) enum Entry {
@@ -31,42 +19,12 @@ pub(crate) enum Entries {
     Illegible(usize),
 }
 
-// Reads the machine line.
-pub(crate) fn machine_line(input: &[u8]) -> Start
-    ensures { λ r. ⌜ StartGives (now (input .entry)) r ⌝ }
-{
-    let mut beside = [0u16; form::MOST_LISTED];
-    let next = reader::next_line(input, 0, &mut beside);
-    let reading = next.line;
-    let Reading::Legible(line) = reading else {
-        return Start::Refused(Refusal::MalformedLine(1));
-    };
-    match line {
-        Line::Machine(n) => admit(n, next.end),
-        Line::Part(_, _) => Start::Refused(Refusal::MalformedLine(1)),
-        Line::Asked(_) => Start::Refused(Refusal::MalformedLine(1)),
-    }
-}
-
-// Tests 1 and 2 of a machine's count; `end` is the position after its line.
-fn admit(n: u16, end: usize) -> Start
-    ensures { λ r. ⌜ AdmitGives n end r ⌝ }
-{
-    if n == 0 {
-        return Start::Refused(Refusal::Empty);
-    }
-    if MOST < n {
-        return Start::Refused(Refusal::TooLarge);
-    }
-    Start::Parts(n as usize, end)
-}
-
 // Reads the part lines from a position on into the sheet, one for each of its cells.
 pub(crate) fn part_lines(input: &[u8], at: usize, parents: &mut [u16]) -> Entries
     requires { ⌜ at ≤ length (now input) ⌝ }
     ensures { λ r. ⌜ EntriesGive (now (input .entry)) at (now (parents .exit)) r ⌝ }
 {
-    let mut beside = [0u16; form::MOST_LISTED];
+    let mut beside = [0u16; lines::MOST_LISTED];
     let mut i = at;
     let mut v = 0;
     while v < parents.len() {
@@ -85,7 +43,7 @@ fn part_line(input: &[u8], at: usize, v: usize, beside: &mut [u16]) -> Entry
     requires { ⌜ (at ≤ length (now input)) × (mostListed ≤ length (now beside)) ⌝ }
     ensures { λ r. ⌜ EntryGives (now (input .entry)) at v r ⌝ }
 {
-    let next = reader::next_line(input, at, beside);
+    let next = lines::next_line(input, at, beside);
     let reading = next.line;
     let Reading::Legible(line) = reading else {
         return Entry::Illegible;

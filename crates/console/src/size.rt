@@ -4,20 +4,28 @@ ghost use Prim.Native.Nat.{_≤_, _<_};
 ghost use mathlib.Core.Path.{_≡_};
 ghost use lib.ListN.{length};
 ghost use Rattle.tree.specs.Buffers.{tourCells, liftCells};
-ghost use Rattle.console.specs.Run.{most};
+ghost use Rattle.lines.specs.Machine.{most};
 ghost use Rattle.console.specs.Whole.{room as Whole·room};
 
 // The most bytes of an input.
-pub(crate) const MOST_BYTES: usize = 65536;
+pub const MOST_BYTES: usize = 65536;
+
+// How many bytes are printed at most for each byte of an input, and how many besides.
+const PER_BYTE: usize = 4;
+
+const BESIDES: usize = 64;
+
+// How many bytes hold whatever is printed for any input.
+pub const MOST_ROOM: usize = PER_BYTE * MOST_BYTES + BESIDES;
 
 // How many bytes hold whatever is printed for an input of so many bytes.
 pub fn room(bytes: usize) -> usize
     ensures { λ r. ⌜ r ≡ Whole·room bytes ⌝ }
 {
     if MOST_BYTES < bytes {
-        return 4 * MOST_BYTES + 64;
+        return MOST_ROOM;
     }
-    4 * bytes + 64
+    PER_BYTE * bytes + BESIDES
 }
 
 // The cells of the tour table of n parts.

@@ -4,9 +4,8 @@ use mathlib.Core.Path.{_≡_}
 use borrow.Author.Needs.{needs}
 use Rattle.text.specs.Puts.{Room}
 use Rattle.console.specs.Run.{output}
-use Rattle.console.specs.Gives.{startText}
-use Rattle.console.specs.declared.sheet.Start.{Start}
-use Rattle.console.proofs.Ending.{output-above, output-within, output-room}
+use Rattle.lines.specs.declared.machine.Start.{Start}
+use Rattle.console.proofs.Ending.{output-above, startText, output-within, output-room}
 use Rattle.console.proofs.text.Statement.{statement}
 use Rattle.console.proofs.text.Tie as tie
 

@@ -7,7 +7,7 @@ use mathlib.Core.List.{List, []}
 use borrow.Author.Needs.{needs}
 use lib.ListN.{getD}
 use Rattle.tree.specs.Verdict.{verdictOf}
-use Rattle.console.specs.Forms.{many}
+use Rattle.lines.specs.Forms.{many}
 use Rattle.console.specs.Print.{manyLine, given}
 use Rattle.console.specs.Run.{answer}
 use Rattle.console.proofs.Answering.{many-refused, many-answered, many-small}

@@ -8,7 +8,7 @@ use borrow.Author.Needs.{needs}
 use lib.ListN.{getD}
 use Rattle.tree.specs.Verdict.{verdictOf, told}
 use Rattle.text.specs.Puts.{Room}
-use Rattle.console.specs.Forms.{pair}
+use Rattle.lines.specs.Forms.{pair}
 use Rattle.console.specs.Print.{pairLine, given}
 use Rattle.console.specs.Run.{answer}
 use Rattle.console.proofs.Answering.{pair-refused, pair-answered, pair-small}
@@ -58,10 +58,13 @@ enum-known-r c = search needs
 enum-told : tie.Need-enum-told
 enum-told c = search needs
 
-traced-requires : tie.Need-traced-requires
-traced-requires c κs =
-    let d = c .before in
-    rw (refused d) (start (called (d .before .before)) .pre .1)
+told-requires : tie.Need-told-requires
+told-requires c κs = search needs
+
+outcome-requires : tie.Need-outcome-requires
+outcome-requires c κs =
+    let d = c .before .before in
+    rw (c .told .ensures, refused d) (start (called (d .before .before)) .pre .1)
 
 same-length : tie.Need-same-length
 same-length c = search needs
@@ -70,7 +73,9 @@ same-length-2 : tie.Need-same-length-2
 same-length-2 c = search needs
 
 returns : tie.Need-returns
-returns c = rw (refused (c .before .before .before .before)) at (c .before .before .traced .ensures)
+returns c =
+    let d = c .before .before .before in
+    rw (d .told .ensures, refused (d .before .before)) at (c .before .before .outcome .ensures)
 
 array-read-pair : tie.Need-array-read-pair
 array-read-pair c = search needs
@@ -106,7 +111,8 @@ pair-spec =
     trail-requires
     enum-known-r
     enum-told
-    traced-requires
+    told-requires
+    outcome-requires
     same-length
     same-length-2
     returns

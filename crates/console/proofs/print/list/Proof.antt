@@ -9,7 +9,7 @@ use lib.Seq.{take-all}
 use Rattle.text.specs.Bytes.{bytes}
 use Rattle.text.specs.Puts.{Puts}
 use Rattle.text.proofs.Putting.{puts-none}
-use Rattle.console.specs.Forms.{listText}
+use Rattle.lines.specs.Forms.{listText}
 use Rattle.console.proofs.Printed.{list-room, list-next}
 use Rattle.console.proofs.print.list.Statement.{statement}
 use Rattle.console.proofs.print.list.Tie as tie

@@ -6,7 +6,7 @@ use mathlib.Core.List.{List, _++_}
 use Rattle.text.specs.Bytes.{bytes, wordNumber}
 use Rattle.text.specs.Puts.{Room}
 use Rattle.text.proofs.Putting.{room-first, room-then, puts-then}
-use Rattle.console.specs.Forms.{listText}
+use Rattle.lines.specs.Forms.{listText}
 use Rattle.console.specs.Print.{manyLine}
 use Rattle.console.proofs.print.many.Statement.{statement}
 use Rattle.console.proofs.print.many.Tie as tie

@@ -1,0 +1,4 @@
+pub mod Forms
+pub mod Read
+pub mod Machine
+pub mod Gives
