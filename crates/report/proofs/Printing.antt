@@ -10,12 +10,12 @@ use lib.ListN.{length, take, drop, length-append}
 use lib.Seq.{take-at}
 use Rattle.io.specs.Counts.{Counts}
 use Rattle.console.specs.Run.{output}
-use Rattle.console.specs.Whole.{writtenOf, room, holds, RunGives}
+use Rattle.console.specs.Whole.{writtenOf, room, mostRoom, holds, RunGives}
 use Rattle.console.specs.declared.Written.{Written}
 use Rattle.console.specs.declared.Written.the-variants.{Text, Short}
 use Rattle.report.proofs.Counting.{counts}
 
-module _ {input out out′ : List ℕ} {r : Written} (large : 262208 ≤ length out) (given : RunGives input out r out′) where
+module _ {input out out′ : List ℕ} {r : Written} (large : mostRoom ≤ length out) (given : RunGives input out r out′) where
   roomy : holds input out ≡ true
   roomy = le-leb (room (length input)) (length out) (omega arith)
 

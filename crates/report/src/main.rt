@@ -1,25 +1,29 @@
 // The program: standard input to standard output. What a program reads and writes no contract can say; what is printed for what was read is `console`'s
-// contract, and `text` here shows that the program's own buffer is never short.
+// contract, and `text` here shows that the program's own buffer is never short. Where the report could not be written whole, standard error says so.
 
 use console::Written;
-ghost use Prim.Native.Nat.{_≤_};
+ghost use Prim.Native.Nat.{_+_, _≤_};
 ghost use mathlib.Core.Path.{_≡_};
 ghost use lib.ListN.{length, take};
 ghost use Rattle.io.specs.Counts.{Counts};
-ghost use Rattle.console.specs.Run.{output};
+ghost use Rattle.console.specs.Run.{mostBytes, output};
+ghost use Rattle.console.specs.Whole.{mostRoom};
 
 // The most bytes of an input, and one more, by which an input above the limit is known.
-fn input_buffer() -> [u8; 65537]
-    ensures { λ r. ⌜ 65537 ≡ length r ⌝ }
+const INPUT: usize = console::MOST_BYTES + 1;
+
+// Room for an input.
+fn input_buffer() -> [u8; INPUT]
+    ensures { λ r. ⌜ mostBytes + 1 ≡ length r ⌝ }
 {
-    [0; 65537]
+    [0; INPUT]
 }
 
-// Bytes that hold whatever is printed: `console::room` of the most bytes.
-fn output_buffer() -> [u8; 262208]
-    ensures { λ r. ⌜ 262208 ≡ length r ⌝ }
+// Bytes that hold whatever is printed.
+fn output_buffer() -> [u8; console::MOST_ROOM]
+    ensures { λ r. ⌜ mostRoom ≡ length r ⌝ }
 {
-    [0; 262208]
+    [0; console::MOST_ROOM]
 }
 
 // Reads standard input until it ends or the buffer is full, and answers how many bytes there are. Where a read fails it answers that there are none, which is
@@ -44,7 +48,7 @@ fn read_input(buffer: &mut [u8]) -> usize
 
 // Puts what is printed for an input at the start of a buffer, and answers how many bytes that are.
 fn text(input: &[u8], out: &mut [u8]) -> usize
-    requires { ⌜ 262208 ≤ length (now out) ⌝ }
+    requires { ⌜ mostRoom ≤ length (now out) ⌝ }
     ensures { λ r. ⌜ Counts r (now (out .exit)) ⌝ }
     ensures { λ r. ⌜ take r (now (out .exit)) ≡ output (now (input .entry)) ⌝ }
 {
@@ -59,5 +63,10 @@ fn main() {
     let n = read_input(&mut input);
     let mut out = output_buffer();
     let count = text(&input[..n], &mut out);
-    io::write_all(libc::STDOUT_FILENO, &out[..count]);
+    if !io::write_all(libc::STDOUT_FILENO, &out[..count]) {
+        io::write_all(
+            libc::STDERR_FILENO,
+            b"report: standard output could not be written whole: the report is incomplete\n",
+        );
+    }
 }

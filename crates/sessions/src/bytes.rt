@@ -4,12 +4,13 @@ ghost use Prim.Native.Nat.{_≤_};
 ghost use mathlib.Core.Path.{_≡_};
 ghost use lib.ListN.{length};
 ghost use Rattle.io.specs.Counts.{Counts};
+ghost use Rattle.console.specs.Whole.{mostRoom};
 
 // A buffer that holds whatever is printed, and so the longest input too.
-pub fn largest_buffer() -> [u8; 262208]
-    ensures { λ r. ⌜ 262208 ≡ length r ⌝ }
+pub fn largest_buffer() -> [u8; console::MOST_ROOM]
+    ensures { λ r. ⌜ mostRoom ≡ length r ⌝ }
 {
-    [0; 262208]
+    [0; console::MOST_ROOM]
 }
 
 // As many bytes of a buffer as n says, or all.
