@@ -9,10 +9,10 @@ returns : tie.Need-returns
 returns c = admit-empty (c .if1 .taken)
 
 returns-2 : tie.Need-returns-2
-returns-2 c = admit-large (c .if2 .taken)
+returns-2 c = admit-large (omega (arith, c .if2 .taken))
 
 returns-3 : tie.Need-returns-3
-returns-3 c = admit-parts (omega arith) (c .if2 .left)
+returns-3 c = admit-parts (omega arith) (omega (arith, c .if2 .left))
 
 pub admit-spec : {M : Type 1} → statement M
 admit-spec = tie.close (tie.spec returns returns-2 returns-3)
