@@ -5,7 +5,7 @@ use mathlib.Core.Path.{_≡_}
 use Rattle.tree.specs.declared.Outcome.{Outcome}
 use Rattle.tree.specs.Verdict.{Verdict, accepted, refused, verdictOf}
 
--- "The result is the refusal's number, 0 for an accepted call"
+-- the number that is returned: the refusal's, 0 for an accepted call
 abbrev pub numberIn : Verdict → ℕ
 numberIn accepted = 0
 numberIn (refused number place) = number

@@ -55,7 +55,7 @@ pub record Runs (s : List ℕ) : Type 0 where
   pub same-parts : SameParts listed other
   pub other-list : ListRun
   pub other-lent : Lends s other 1 (asked other-list)
-  -- "every way of sharing the list out into groups of at least one part": the list of the groups' carriers, as `list` gave them
+  -- "every sharing out into groups of at least one part": the list of the groups' carriers, as `list` gave them
   pub groups : ℕ
   pub group : ℕ → ℕ
   pub shared : SharedOut listed groups group
@@ -84,7 +84,7 @@ pub record Agree (s : List ℕ) (runs : Runs s) : Type 0 where
   pub other-accepted : runs .other-list .result ≡ Accepted
   pub groups-accepted : (g : ℕ) (h : g < runs .groups) → runs .each-group g h .result ≡ Accepted
   pub of-groups-accepted : runs .of-groups .result ≡ Accepted
-  -- "the routes by labels, by tour and by lifts give the same answers in every cell"
+  -- "the routes give the same answers in every cell": by labels, by tour and by lifts
   pub labels-as-tour : answers (runs .labels) ≡ answers (runs .tour)
   pub tour-as-lifts : answers (runs .tour) ≡ answers (runs .lifts)
   pub in-every-cell : length (answers (runs .labels)) ≡ answerCells (length (runs .question))
@@ -96,9 +96,9 @@ pub record Agree (s : List ℕ) (runs : Runs s) : Type 0 where
   -- "every other list .. has the same carrier, and so has the list of the groups' carriers"
   pub of-other : answers (runs .other-list) ≡ answers (runs .list)
   pub of-carriers : answers (runs .of-groups) ≡ answers (runs .list)
-  -- "the lift route's trail is exactly the doubling rule's rows, with 65535 in all cells after them"
+  -- "the trail is exactly the doubling rule's rows, with 65535 in all cells after them"
   pub rows : rowsAfter (runs .trail-of) ≡ trailBuffer (trail (own s) (runs .x) (runs .y))
-  -- "and the lift count given with it equals the number of these rows and the sum of ones": the count is given, and not a refusal
+  -- "and the lift count equals the number of these rows and the sum of ones": the count is given, and not a refusal
   pub count : runs .trail-of .result ≡ Lifts (length (trail (own s) (runs .x) (runs .y)))
   pub ones : length (trail (own s) (runs .x) (runs .y)) ≡ liftCount s (runs .x) (runs .y)
   -- with it the pair's carrier

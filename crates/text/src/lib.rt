@@ -1,5 +1,5 @@
 // Text in buffers of bytes: what stands at a place of a line, where a line ends, and words and numbers written from a place on. The functions
-// ask for a place within the buffer and for room; they are the inside of `console`.
+// ask for a place within the buffer and for room; they are the inside of `lines` and `console`.
 
 mod read;
 mod write;

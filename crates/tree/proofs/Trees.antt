@@ -50,7 +50,7 @@ module _ {s : List ℕ} (t : Tree s) where
 
   -- ---- LEVEL
 
-  -- "a climb meets the root in fewer than n steps"
+  -- a climb meets the root in fewer than n steps
   pub level-below : (v : ℕ) → v < length s → level s v < length s
   unfolding level
   level-below v h =

@@ -1,5 +1,5 @@
--- What the sections of the tables are made from: a sheet that was accepted, work of its exact length, and the sections before. With it, the names for
--- "these cells are the sheet's own" that the functions of the table crates promise to each other.
+-- What the sections of the tables are made from: a sheet that was accepted, work of its exact length, and the sections before. With it, names for
+-- what the functions of the table crates promise to each other: that these cells are the sheet's own.
 -- Assumes nothing.
 use Prim.Native.Nat.{ℕ, _+_, _*_, _≤_}
 use mathlib.Core.Path.{_≡_}
