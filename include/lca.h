@@ -54,8 +54,17 @@ extern "C" {
 #endif
 
 /*
+ * The version of the C interface that this header declares. Every change of a call, of a length or of a number's meaning raises it.
+ * lca_version() gives that of the archive which is linked. A program may compare both before its first call.
+ */
+#define LCA_VERSION 1
+
+uint32_t lca_version(void);
+
+/*
  * The card of numbers. Tests run in this order, as far as the call has such input, and the first that fails gives the number. What the
- * place is stands beside each.
+ * place is stands beside each. lca_word gives the operator's word for a number. In Rust, `Refusal` has
+ * the names of 1 to 12 without LCA_.
  */
 enum lca_number {
     LCA_ACCEPTED = 0,

@@ -1,6 +1,7 @@
 // The calls of `tables` and `routes` for C, and for whatever calls C's functions: a slice is a pointer and its length in cells (include/lca.h). Each
 // returns the number of its refusal, 0 where it is accepted, and stores at `value` the refusal's place, or 0 where it is accepted; of an
 // accepted trail, the count of its lifts. What it does besides is what the library's call of that name does, by the same contract.
+// `lca_version` is no such call: it says which version of this interface the archive has.
 
 use tree::Outcome;
 use tree::Refusal;
@@ -14,6 +15,18 @@ ghost use Rattle.tables.specs.Check.{CheckGives};
 ghost use Rattle.tables.specs.Lend.{BuildGives, LentGives};
 ghost use Rattle.routes.specs.Answers.{askedBy, PairsGive, TrailGives, ListGives};
 ghost use Rattle.lca.specs.Returned.{numberIn, valueIn, outcomeOf, Returned};
+ghost use Rattle.lca.specs.Version.{version};
+
+// The version of the interface, as LCA_VERSION in include/lca.h has it.
+const VERSION: u32 = 1;
+
+// The version of the interface that the archive has.
+#[no_mangle]
+pub extern "C" fn lca_version() -> u32
+    ensures { λ r. ⌜ r ≡ version ⌝ }
+{
+    VERSION
+}
 
 // Checks a sheet: `tables::check`.
 #[no_mangle]
