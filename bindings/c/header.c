@@ -1,0 +1,216 @@
+/*
+ * Tests include/lca.h against the archive that is linked. Prints nothing and exits with 0 where all is right; otherwise it says on standard
+ * error what is wrong, and exits with 1.
+ *
+ * It stands beside the tests of the Rust binding, since include/ has only what a user copies. It is compiled as C99 and as C++ (.ci/run).
+ * By hand, from the top of the repository:
+ *
+ *     rt staticlib lca
+ *     cc -std=c99 -Wall -Wextra -Wpedantic -Werror -Iinclude bindings/c/header.c target/staticlib/liblca.a -o target/header
+ *     target/header
+ */
+
+/* First, so that the header is seen to need no other. */
+#include "lca.h"
+
+#include <stdio.h>
+#include <stdlib.h>
+#include <string.h>
+
+#if LCA_VERSION < 1
+#error "LCA_VERSION must be a number from 1 on that #if can read"
+#endif
+
+enum { PARTS = 7, LABEL = 42, TOUR = 72, LIFT = 21, WORK = 28 };
+
+/* What a cell holds that no call has written. */
+enum { UNTOUCHED = 9999 };
+
+/* The known sheet. */
+static const uint16_t parents[PARTS] = {0, 0, 0, 1, 1, 2, 5};
+
+static uint16_t label[LABEL], tour[TOUR], lift[LIFT], work[WORK];
+
+static int all_right = 1;
+
+/* Says so where a number is not what it must be. */
+static void expect(const char *what, uint64_t is, uint64_t must)
+{
+    if (is != must) {
+        fprintf(stderr, "header: %s is %lu and must be %lu\n", what, (unsigned long)is, (unsigned long)must);
+        all_right = 0;
+    }
+}
+
+/* The same of one number of many. */
+static void expect_at(const char *what, size_t at, uint64_t is, uint64_t must)
+{
+    char name[80];
+    snprintf(name, sizeof name, "%s(%lu)", what, (unsigned long)at);
+    expect(name, is, must);
+}
+
+static void test_version(void)
+{
+    if (lca_version() != LCA_VERSION) {
+        fprintf(stderr, "header: lca.h declares version %lu, and the archive has %lu: raise both, and make the archive again\n",
+            (unsigned long)LCA_VERSION, (unsigned long)lca_version());
+        all_right = 0;
+    }
+}
+
+struct lengths {
+    size_t n, label, tour, lift, work;
+};
+
+static void test_lengths(void)
+{
+    static const struct lengths all[] = {
+        {0, 0, 0, 0, 0},
+        {1, 6, 3, 1, 4},
+        {3, 18, 23, 6, 12},
+        {PARTS, LABEL, TOUR, LIFT, WORK},
+        {16384, 98304, 540656, 245760, 65536},
+        {16385, 0, 0, 0, 0},
+        {(size_t)-1, 0, 0, 0, 0},
+    };
+    size_t i;
+    for (i = 0; i < sizeof all / sizeof all[0]; i++) {
+        size_t n = all[i].n;
+        expect_at("lca_label_cells", n, lca_label_cells(n), all[i].label);
+        expect_at("lca_tour_cells", n, lca_tour_cells(n), all[i].tour);
+        expect_at("lca_lift_cells", n, lca_lift_cells(n), all[i].lift);
+        expect_at("lca_work_cells", n, lca_work_cells(n), all[i].work);
+    }
+    expect("LCA_MOST_PARTS", LCA_MOST_PARTS, 16384);
+    expect("LCA_TRAIL_CELLS", LCA_TRAIL_CELLS, 64);
+    expect("LCA_NO_CELL", LCA_NO_CELL, 65535);
+}
+
+struct row {
+    uint32_t name;
+    const char *word;
+};
+
+/* The card has the numbers from 0 on, and each its word. The last row is off the card. */
+static void test_card(void)
+{
+    static const struct row card[] = {
+        {LCA_ACCEPTED, "accepted"},
+        {LCA_BARE, "bare"},
+        {LCA_OVERSIZE, "oversize"},
+        {LCA_MISFIT, "misfit"},
+        {LCA_OFF_SHEET, "off sheet"},
+        {LCA_ROOTLESS, "rootless"},
+        {LCA_SECOND_ROOT, "second root"},
+        {LCA_LOOP, "loop"},
+        {LCA_STALE, "stale"},
+        {LCA_NOTHING_LISTED, "nothing listed"},
+        {LCA_NO_SUCH_PART, "no such part"},
+        {LCA_ADRIFT, "adrift"},
+        {LCA_ILLEGIBLE, "illegible"},
+        {13, "unknown"},
+    };
+    uint32_t i;
+    for (i = 0; i < sizeof card / sizeof card[0]; i++) {
+        expect_at("the card's number", i, card[i].name, i);
+        if (strcmp(lca_word(i), card[i].word) != 0) {
+            fprintf(stderr, "header: lca_word(%lu) is \"%s\" and must be \"%s\"\n", (unsigned long)i, lca_word(i), card[i].word);
+            all_right = 0;
+        }
+    }
+}
+
+/* The tables are the known sheet's. */
+static void test_compare(void)
+{
+    uint64_t value = UNTOUCHED;
+    uint32_t number = lca_compare(parents, PARTS, label, LABEL, tour, TOUR, lift, LIFT, work, WORK, &value);
+    expect("lca_compare", number, LCA_ACCEPTED);
+    expect("lca_compare's value", value, 0);
+}
+
+/* Builds the tables of the known sheet, of which the questions below are asked. A cell of each was worked out by hand. */
+static void test_build(void)
+{
+    uint64_t value = UNTOUCHED;
+    expect("lca_check", lca_check(parents, PARTS, work, WORK, &value), LCA_ACCEPTED);
+    expect("lca_check's value", value, 0);
+    value = UNTOUCHED;
+    expect("lca_build", lca_build(parents, PARTS, label, LABEL, tour, TOUR, lift, LIFT, work, WORK, &value), LCA_ACCEPTED);
+    expect("lca_build's value", value, 0);
+    expect_at("label", 41, label[41], 6);
+    expect_at("tour", 64, tour[64], 6);
+    expect_at("lift", 13, lift[13], 2);
+    test_compare();
+}
+
+typedef uint32_t asking(
+    const uint16_t *, size_t, const uint16_t *, size_t, const uint16_t *, size_t, const uint16_t *, size_t, uint16_t *, size_t,
+    const uint16_t *, size_t, uint16_t *, size_t, uint64_t *);
+
+/* Asks for the pairs 3 4 and 3 6, whose carriers are 1 and 0. */
+static void test_pairs(const char *what, asking *call)
+{
+    static const uint16_t question[4] = {3, 4, 3, 6};
+    uint16_t answer[2] = {UNTOUCHED, UNTOUCHED};
+    uint64_t value = UNTOUCHED;
+    uint32_t number = call(parents, PARTS, label, LABEL, tour, TOUR, lift, LIFT, work, WORK, question, 4, answer, 2, &value);
+    expect(what, number, LCA_ACCEPTED);
+    expect_at(what, 0, answer[0], 1);
+    expect_at(what, 1, answer[1], 0);
+    expect("the value of accepted pairs", value, 0);
+}
+
+static void test_list(void)
+{
+    static const uint16_t question[3] = {6, 5, 2};
+    uint16_t answer = UNTOUCHED;
+    uint64_t value = UNTOUCHED;
+    uint32_t number = lca_list(parents, PARTS, label, LABEL, tour, TOUR, lift, LIFT, work, WORK, question, 3, &answer, 1, &value);
+    expect("lca_list", number, LCA_ACCEPTED);
+    expect("lca_list's answer", answer, 2);
+    expect("lca_list's value", value, 0);
+}
+
+/* The trail of 3 and 6 has three lifts: to 3 and 5, to 1 and 2, to 0 and 0. */
+static void test_trail(void)
+{
+    static const uint16_t pair[2] = {3, 6}, rows[6] = {3, 5, 1, 2, 0, 0};
+    uint16_t trail[LCA_TRAIL_CELLS] = {0}, answer = UNTOUCHED;
+    uint64_t value = UNTOUCHED;
+    size_t i;
+    uint32_t number = lca_trail(
+        parents, PARTS, label, LABEL, tour, TOUR, lift, LIFT, work, WORK, pair, 2, &answer, 1, trail, LCA_TRAIL_CELLS, &value);
+    expect("lca_trail", number, LCA_ACCEPTED);
+    expect("lca_trail's count of lifts", value, 3);
+    expect("lca_trail's answer", answer, 0);
+    for (i = 0; i < 64; i++) {
+        expect_at("trail", i, trail[i], i < 6 ? rows[i] : 65535);
+    }
+}
+
+/* Parts 1 and 2 are bolted into each other. The refusal changes no table: what was lent is still the known sheet's. */
+static void test_refusal(void)
+{
+    static const uint16_t loop[3] = {0, 2, 1};
+    uint64_t value = UNTOUCHED;
+    expect("lca_build of a loop", lca_build(loop, 3, label, 18, tour, 23, lift, 6, work, 12, &value), LCA_LOOP);
+    expect("the loop's place", value, 1);
+    test_compare();
+}
+
+int main(void)
+{
+    test_version();
+    test_lengths();
+    test_card();
+    test_build();
+    test_pairs("lca_pairs_by_labels", lca_pairs_by_labels);
+    test_pairs("lca_pairs_by_tour", lca_pairs_by_tour);
+    test_pairs("lca_pairs_by_lifts", lca_pairs_by_lifts);
+    test_list();
+    test_trail();
+    test_refusal();
+    return all_right ? EXIT_SUCCESS : EXIT_FAILURE;
+}
