@@ -1,5 +1,5 @@
 /*
- * Prints the carrier of each pair of parts on a sheet.
+ * Prints the carrier, the lowest common ancestor, of each pair of parts on a sheet.
  *
  * Reads whitespace-separated numbers, 0 to 65535, from standard input: the count of parts, an entry for each part, and then the pairs.
  * examples/carrier.txt is such an input. Its output, in examples/carrier.out, is worked out by hand:

@@ -1,9 +1,20 @@
 /*
- * Common carriers on a parts sheet.
+ * Lowest common ancestors in a rooted tree of 1 to 16,384 nodes, in the words of a parts sheet.
  *
- * A sheet is an array of n entries: entry v is the part into which part v is bolted. Parts are numbered from 0, and the root names
- * itself. A part carries itself and all that is bolted into what it carries. The carrier of two parts, or of a list, is their common
- * carrier that all their other common carriers carry.
+ *   part     a node of the tree; n parts have the numbers 0 to n - 1
+ *   sheet    the tree, as an array of n entries: entry v is the part into which part v is bolted, its parent
+ *   root     the part that names itself: its entry is its own number
+ *   level    the steps from a part up to the root; a step goes from a part to its entry
+ *   carries  a part carries itself and all that is bolted into what it carries: it is an ancestor of each
+ *   carrier  of two parts, or of a list, their lowest common ancestor: their common carrier that all their other common carriers carry
+ *   route    a way to find the carrier of a pair. There are three, and they give the same answers:
+ *              by labels  B. Schieber and U. Vishkin, "On finding lowest common ancestors: simplification and parallelization",
+ *                         SIAM Journal on Computing 17 (1988)
+ *              by tour    M. A. Bender and M. Farach-Colton, "The LCA problem revisited", LATIN 2000
+ *              by lifts   the deeper part is raised to the other's level by falling powers of two. If the parts then differ, both are
+ *                         raised by falling powers of two while they stay different, and then both by one
+ *   lift     one such raise, of one part or of both
+ *   trail    the lifts of a pair in order: after each, where the two parts are
  *
  * Link with target/staticlib/liblca.a, which `rt staticlib lca` makes.
  *
@@ -15,8 +26,9 @@
  *   buffer    cells                      what it holds
  *   parents   n                          the sheet
  *   label     lca_label_cells(n)         PREORDER, SIZE, LEVEL, INLABEL, ASCENDANT and HEAD, n cells each
- *   tour      lca_tour_cells(n)          the 2n - 1 visits, each part's first position, and the rows of least levels
- *   lift      lca_lift_cells(n)          row k: each part's carrier 2^k steps up
+ *   tour      lca_tour_cells(n)          the 2n - 1 visits, each part's first position, and row k: from each position on, the first of
+ *                                        least level among 2^k
+ *   lift      lca_lift_cells(n)          row k: each part's carrier 2^k steps up, or the root if that is nearer
  *   work      lca_work_cells(n)          the call's own room: what it holds before makes no difference
  *   question  2 for each pair            the pairs, one after another: x, y, x, y, ..
  *             2 for a trail              x, y
@@ -63,8 +75,7 @@ uint32_t lca_version(void);
 
 /*
  * The card of numbers. Tests run in this order, as far as the call has such input, and the first that fails gives the number. What the
- * place is stands beside each. lca_word gives the operator's word for a number. In Rust, `Refusal` has
- * the names of 1 to 12 without LCA_.
+ * place is stands beside each. A name is the operator's word for its number (lca_word), and the Rust crate's name, with LCA_ before it.
  */
 enum lca_number {
     LCA_ACCEPTED = 0,
@@ -78,7 +89,7 @@ enum lca_number {
     LCA_LOOP = 7,           /* a part's climb never meets the root; the lowest such part */
     LCA_STALE = 8,          /* a table's cell isn't this sheet's; the first such cell from 0, label, tour and lift end to end */
     LCA_NOTHING_LISTED = 9, /* the question is empty; 0 */
-    LCA_NO_SUCH_PART = 10,  /* a number in the question is n or more; its first position in the question, from 0 */
+    LCA_NO_SUCH_PART = 10,  /* a number in the question is n or more; the first such position in the question, from 0 */
     LCA_ADRIFT = 11,        /* the parts asked for have no common carrier; 0. No sheet that passes the tests before has such parts */
     LCA_ILLEGIBLE = 12      /* the program `report` alone gives this one: a line breaks its forms; the line's number from 1 */
 };
@@ -179,11 +190,19 @@ uint32_t lca_compare(
     uint64_t *value);
 
 /*
- * The calls that answer. Tests 1 to 11. Each compares the tables with the sheet once, whatever the number of its questions: ask many
- * pairs in one call. Writes: work, answer.
+ * The calls that answer. Tests 1 to 11. Writes: work, answer.
+ *
+ * Each first tests the sheet and compares the tables with it, once whatever the number of its questions. That takes time in proportion to
+ * the tables. Only a further pair of the same call costs little: so ask many pairs in one call. As docs/PERFORMANCE.md measured it on its
+ * machine, on random sheets:
+ *
+ *                           a call with one pair,   each further pair of the same call,
+ *   parts    table cells    by any route            by labels   by tour   by lifts
+ *       64         1,912      1 microsecond         8 ns        3 ns       8 ns
+ *   16,384       884,720    265 microseconds        8 ns        4 ns      13 ns
  */
 
-/* The carrier of each pair, by labels. The three routes give the same answers. */
+/* The carrier of each pair, by labels. A further pair takes constant time. */
 uint32_t lca_pairs_by_labels(
     const uint16_t *parents, size_t parents_len,
     const uint16_t *label, size_t label_len,
@@ -194,7 +213,7 @@ uint32_t lca_pairs_by_labels(
     uint16_t *answer, size_t answer_len,
     uint64_t *value);
 
-/* The carrier of each pair, by the tour. */
+/* The carrier of each pair, by the tour. A further pair takes constant time. */
 uint32_t lca_pairs_by_tour(
     const uint16_t *parents, size_t parents_len,
     const uint16_t *label, size_t label_len,
@@ -205,7 +224,7 @@ uint32_t lca_pairs_by_tour(
     uint16_t *answer, size_t answer_len,
     uint64_t *value);
 
-/* The carrier of each pair, by lifts. */
+/* The carrier of each pair, by lifts. A further pair takes up to about 2 log n + 2 steps. */
 uint32_t lca_pairs_by_lifts(
     const uint16_t *parents, size_t parents_len,
     const uint16_t *label, size_t label_len,
@@ -216,7 +235,7 @@ uint32_t lca_pairs_by_lifts(
     uint16_t *answer, size_t answer_len,
     uint64_t *value);
 
-/* The carrier of all the listed parts. */
+/* The carrier of all the listed parts. A further part takes constant time. */
 uint32_t lca_list(
     const uint16_t *parents, size_t parents_len,
     const uint16_t *label, size_t label_len,

@@ -1,8 +1,17 @@
-//! Common carriers on a parts sheet: a safe API over the proved library `liblca.a`.
+//! Lowest common ancestors in a rooted tree of 1 to 16,384 nodes, in the words of a parts sheet: a safe API over the proved library
+//! `liblca.a`.
 //!
-//! A sheet is a list of numbers: entry v is the part into which part v is bolted. Parts are numbered from 0, and the root names itself. A
-//! part carries itself and all that is bolted into what it carries. The carrier of two parts, or of a list, is their common carrier that
-//! all their other common carriers carry: the smallest assembly that has them all.
+//! | term | what it is |
+//! |---|---|
+//! | part | a node of the tree; n parts have the numbers 0 to n − 1 |
+//! | sheet | the tree, as a list of n entries: entry v is the part into which part v is bolted, its parent |
+//! | root | the part that names itself: its entry is its own number |
+//! | level | the steps from a part up to the root; a step goes from a part to its entry |
+//! | carries | a part carries itself and all that is bolted into what it carries: it is an ancestor of each |
+//! | carrier | of two parts, or of a list, their lowest common ancestor: the common carrier that all others of theirs carry, the smallest assembly |
+//! | route | a way to find the carrier of a pair: by labels, by tour or by lifts ([`Route`]). All give the same answers |
+//! | lift | one raise by the lift route, of one part or of both, by 2^k steps |
+//! | trail | the lifts of a pair in order: after each, where the two parts are ([`Trail`]) |
 //!
 //! ```
 //! use lca::Tree;
@@ -22,8 +31,17 @@
 //! # }
 //! ```
 //!
+//! A call that answers first compares the tables with the sheet, which takes far longer than a pair: ask many pairs in one call
+//! ([`Tree`] has the figures).
+//!
 //! [`Tree`] owns a sheet and its tables. [`calls`] has the library's calls themselves, on buffers that the caller lends, and [`cells`]
 //! the buffers' lengths. Nothing here adds a rule about carriers: the library decides, and its calls are proved.
+//!
+//! The routes by labels and by tour are from the literature:
+//!
+//! - B. Schieber and U. Vishkin, "On finding lowest common ancestors: simplification and parallelization", SIAM Journal on Computing 17
+//!   (1988);
+//! - M. A. Bender and M. Farach-Colton, "The LCA problem revisited", LATIN 2000.
 
 #![warn(missing_docs)]
 #![deny(unsafe_op_in_unsafe_fn)]
@@ -32,10 +50,12 @@ pub mod calls;
 pub mod cells;
 mod ffi;
 mod refusal;
+mod route;
 mod tree;
 
 pub use refusal::Refusal;
-pub use tree::{Route, Trail, Tree};
+pub use route::{Route, Trail};
+pub use tree::Tree;
 
 #[cfg(doctest)]
 #[doc = include_str!("../README.md")]

@@ -5,7 +5,8 @@ use std::fmt;
 
 /// A refused call: the number on the operator's card, and the place.
 ///
-/// What a place is depends on the number, and stands beside each constant below.
+/// What a place is depends on the number, and stands beside each constant below. A constant's name is the operator's word for its number
+/// ([`word`](Refusal::word)), and the name in C without `LCA_`.
 ///
 /// ```
 /// use lca::{Refusal, Tree};
@@ -31,7 +32,7 @@ impl Refusal {
     pub const OVERSIZE: u32 = 2;
     /// A buffer hasn't its exact length. Place: the lowest such buffer, of 1 label, 2 tour, 3 lift, 4 work, 5 question, 6 answer, 7 trail.
     pub const MISFIT: u32 = 3;
-    /// An entry is no part of the sheet. Place: the lowest part with such an entry.
+    /// An entry is n or more, of n parts. Place: the lowest part with such an entry.
     pub const OFF_SHEET: u32 = 4;
     /// No part names itself. Place: 0.
     pub const ROOTLESS: u32 = 5;
@@ -43,14 +44,14 @@ impl Refusal {
     pub const STALE: u32 = 8;
     /// The question is empty. Place: 0.
     pub const NOTHING_LISTED: u32 = 9;
-    /// The question names a part that the sheet hasn't. Place: its first position in the question, from 0, two to a pair.
+    /// A number in the question is n or more, of n parts. Place: the first such position in the question, from 0, two to a pair.
     pub const NO_SUCH_PART: u32 = 10;
-    /// The parts in the question have no common carrier. Place: 0. A sheet that passes the tests before gives no cause for it.
+    /// The parts asked for have no common carrier. Place: 0. No sheet that passes the tests before has such parts.
     pub const ADRIFT: u32 = 11;
-    /// A line breaks the forms of the program that reads text. Place: the line's number, from 1. No call of this crate gives it.
+    /// The program `report` alone gives this one: a line breaks its forms. Place: the line's number, from 1.
     pub const ILLEGIBLE: u32 = 12;
 
-    /// The operator's word for the number.
+    /// The operator's word for the number: "unknown" for one off the card.
     pub const fn word(&self) -> &'static str {
         match self.number {
             Self::BARE => "bare",

@@ -2,12 +2,21 @@
 
 use std::fmt;
 
-use crate::{calls, cells, Refusal};
+use crate::{calls, cells, Refusal, Route, Trail};
 
 /// A sheet that is one rooted tree, with its three tables.
 ///
-/// A call that answers compares the tables with the sheet each time, so ask many pairs in one call. Each call allocates its own work
-/// buffer: that costs far less than the comparison, and lets threads share a tree.
+/// A call that answers first tests the sheet and compares the tables with it, which takes time in proportion to the tables; then each pair
+/// of the call costs little. So ask many pairs in one call, by [`pairs`](Tree::pairs), and not one at a time by
+/// [`carrier`](Tree::carrier). As `docs/PERFORMANCE.md` measured [`calls`] on its machine, on random sheets:
+///
+/// | parts | a call with one pair, by any route | each further pair of the same call: by labels | by tour | by lifts |
+/// |---:|---:|---:|---:|---:|
+/// | 64 | 1 µs | 8 ns | 3 ns | 8 ns |
+/// | 16,384 | 265 µs | 8 ns | 4 ns | 13 ns |
+///
+/// Each call allocates its own buffers, which is not in these figures: that costs far less than the comparison, and lets threads share a
+/// tree.
 ///
 /// ```
 /// use lca::{Refusal, Tree};
@@ -29,44 +38,6 @@ pub struct Tree {
     label: Box<[u16]>,
     tour: Box<[u16]>,
     lift: Box<[u16]>,
-}
-
-/// The table by which the carriers of pairs are found. All give the same answers.
-#[derive(Clone, Copy, Debug, PartialEq, Eq, Hash)]
-pub enum Route {
-    /// By the label table, in constant time a pair (Schieber and Vishkin).
-    Labels,
-    /// By the tour table, in constant time a pair (Bender and Farach-Colton).
-    Tour,
-    /// By the lift table, in as many steps a pair as log n.
-    Lifts,
-}
-
-/// The carrier of a pair, and the lifts by which the lift route reaches it.
-///
-/// ```
-/// # fn main() -> Result<(), lca::Refusal> {
-/// let tree = lca::Tree::new(&[0, 0, 0, 1, 1, 2, 5])?;
-/// let trail = tree.trail(0, 6)?;
-/// assert_eq!(trail.carrier, 0);
-/// assert_eq!(trail.rows, [(0, 2), (0, 0)]);
-/// assert_eq!(trail.lifts(), 2);
-/// # Ok(())
-/// # }
-/// ```
-#[derive(Clone, Debug, PartialEq, Eq, Hash)]
-pub struct Trail {
-    /// The carrier.
-    pub carrier: u16,
-    /// For each lift, x's side and y's side after it.
-    pub rows: Vec<(u16, u16)>,
-}
-
-impl Trail {
-    /// The count of lifts.
-    pub fn lifts(&self) -> usize {
-        self.rows.len()
-    }
 }
 
 impl Tree {
@@ -140,12 +111,12 @@ impl Tree {
         &self.label
     }
 
-    /// The tour table: the visits, each part's first position, and the rows of least levels.
+    /// The tour table: the visits, each part's first position, and row k: from each position on, the first of least level among 2^k.
     pub fn tour(&self) -> &[u16] {
         &self.tour
     }
 
-    /// The lift table: row k has each part's carrier 2^k steps up.
+    /// The lift table: row k has each part's carrier 2^k steps up, or the root if that is nearer.
     pub fn lift(&self) -> &[u16] {
         &self.lift
     }
@@ -162,7 +133,8 @@ impl Tree {
 
     /// The carrier of each pair, by the route named (tests 9 to 11).
     ///
-    /// The place of a refusal counts the listed numbers, two to a pair.
+    /// The tables are compared once for all pairs; [`Route`] says what a further pair costs. The place of a refusal counts the listed
+    /// numbers, two to a pair.
     ///
     /// ```
     /// use lca::{Refusal, Route, Tree};
@@ -197,22 +169,24 @@ impl Tree {
         Ok(answer)
     }
 
-    /// The carrier of each pair, by the label table.
+    /// The carrier of each pair, by labels: after the comparison, constant time a pair.
     pub fn pairs_by_labels(&self, pairs: &[(u16, u16)]) -> Result<Vec<u16>, Refusal> {
         self.pairs(Route::Labels, pairs)
     }
 
-    /// The carrier of each pair, by the tour table.
+    /// The carrier of each pair, by the tour: after the comparison, constant time a pair.
     pub fn pairs_by_tour(&self, pairs: &[(u16, u16)]) -> Result<Vec<u16>, Refusal> {
         self.pairs(Route::Tour, pairs)
     }
 
-    /// The carrier of each pair, by the lift table.
+    /// The carrier of each pair, by lifts: after the comparison, up to about 2 log n + 2 steps a pair.
     pub fn pairs_by_lifts(&self, pairs: &[(u16, u16)]) -> Result<Vec<u16>, Refusal> {
         self.pairs(Route::Lifts, pairs)
     }
 
-    /// The carrier of one pair, by the label table.
+    /// The carrier of one pair, by labels.
+    ///
+    /// This is a call with one pair: nearly all its time is the comparison of the tables. For more pairs there is [`pairs`](Tree::pairs).
     pub fn carrier(&self, x: u16, y: u16) -> Result<u16, Refusal> {
         let carriers = self.pairs_by_labels(&[(x, y)])?;
         Ok(carriers[0])
