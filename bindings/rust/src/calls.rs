@@ -14,6 +14,12 @@
 use crate::ffi;
 use crate::Refusal;
 
+/// The version of the C interface that the archive has which is linked. [`VERSION`](crate::VERSION) is what this crate is written for.
+pub fn version() -> u32 {
+    // SAFETY: the function takes nothing and returns a number.
+    unsafe { ffi::lca_version() }
+}
+
 /// Accepts a sheet that is one rooted tree (tests 1 to 7).
 pub fn check(parents: &[u16], work: &mut [u16]) -> Result<(), Refusal> {
     let mut value = 0;

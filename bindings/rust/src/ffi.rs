@@ -1,6 +1,8 @@
 //! The C interface, as `include/lca.h` declares it.
 
 extern "C" {
+    pub fn lca_version() -> u32;
+
     pub fn lca_check(
         parents: *const u16,
         parents_len: usize,

@@ -57,6 +57,16 @@ pub use refusal::Refusal;
 pub use route::{Route, Trail};
 pub use tree::Tree;
 
+/// The version of the C interface that this crate is written for: `LCA_VERSION` of `include/lca.h`.
+///
+/// Every change of a call, of a length or of a number's meaning raises it. [`calls::version`] gives that of the archive which is linked; a
+/// program that is lent an archive by others may compare both before its first call.
+///
+/// ```
+/// assert_eq!(lca::calls::version(), lca::VERSION);
+/// ```
+pub const VERSION: u32 = 1;
+
 #[cfg(doctest)]
 #[doc = include_str!("../README.md")]
 struct Readme;
