@@ -9,7 +9,10 @@ fn entry(line: &str) -> Option<u16> {
 }
 
 fn main() -> Result<(), Refusal> {
-    let sheet: Vec<u16> = include_str!("../../cutterhead.in").lines().filter_map(entry).collect();
+    let sheet: Vec<u16> = include_str!("../../cutterhead.in")
+        .lines()
+        .filter_map(entry)
+        .collect();
     let tree = Tree::new(&sheet)?;
     println!("{} parts", tree.len());
 
@@ -17,7 +20,12 @@ fn main() -> Result<(), Refusal> {
         println!("{worn:?}: carrier {}", tree.list(worn)?);
     }
     let trail = tree.trail(63, 21)?;
-    println!("63 and 21: carrier {}, lifts {}, rows {:?}", trail.carrier, trail.lifts(), trail.rows);
+    println!(
+        "63 and 21: carrier {}, lifts {}, rows {:?}",
+        trail.carrier,
+        trail.lifts(),
+        trail.rows
+    );
     if let Err(refusal) = tree.carrier(64, 92) {
         println!("64 and 92: {refusal}");
     }
