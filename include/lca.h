@@ -48,8 +48,8 @@
  *
  * Results
  *
- * A call returns LCA_ACCEPTED, or the number of its refusal. It always sets *value: to the refusal's place, to an accepted trail's count
- * of lifts, or to 0.
+ * A call returns LCA_ACCEPTED, or the number of its refusal, by the card below. It always sets *value: to the refusal's place, to an
+ * accepted trail's count of lifts, or to 0.
  *
  * An accepted call fills every cell of what it was lent to fill. A refused one changes no table, answer or trail. `work` is all zero
  * afterwards, but unchanged after refusals 1 to 3.
@@ -74,7 +74,7 @@ extern "C" {
 uint32_t lca_version(void);
 
 /*
- * The card of numbers. Tests run in this order, as far as the call has such input, and the first that fails gives the number. What the
+ * The card of numbers. Tests run in this order, as far as the call has such input, and the first that fails gives its number. What the
  * place is stands beside each. A name is the operator's word for its number (lca_word), and the Rust crate's name, with LCA_ before it.
  */
 enum lca_number {

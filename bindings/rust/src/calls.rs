@@ -1,8 +1,8 @@
 //! The library's calls, one function for each, with every buffer lent by the caller.
 //!
-//! A call takes slices of any length and content, and refuses what it cannot answer. [`cells`](crate::cells) gives the exact lengths that
-//! it accepts. A question of pairs has two cells for each pair, a trail's two, a list's any number; an answer has one cell for each pair,
-//! or one for a list or a trail.
+//! A call takes slices of any length and content, and refuses what it cannot answer: the first test that fails gives its number, by the
+//! card of [`Refusal`]. [`cells`](crate::cells) gives the exact lengths that it accepts. A question of pairs has two cells for each pair,
+//! a trail's two, a list's any number; an answer has one cell for each pair, or one for a list or a trail.
 //!
 //! `work` is the call's own: what it holds before makes no difference. Afterwards it is all zero, or unchanged after refusals 1 to 3. A
 //! refused call changes no other buffer, and an accepted one fills every cell of its answer, its rows, or the tables that it builds.

@@ -5,7 +5,8 @@ use std::fmt;
 
 /// A refused call: the number on the operator's card, and the place.
 ///
-/// What a place is depends on the number, and stands beside each constant below. A constant's name is the operator's word for its number
+/// Each number below is a test's. Tests run in their order, as far as the call has such input, and the first that fails is told. What a
+/// place is depends on the number, and stands beside each constant below. A constant's name is the operator's word for its number
 /// ([`word`](Refusal::word)), and the name in C without `LCA_`.
 ///
 /// ```
