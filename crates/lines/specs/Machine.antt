@@ -27,7 +27,7 @@ unfoldable pub byCount : Verdict → ℕ → Lines → Opening
 byCount accepted n rest = machineOf n rest
 byCount (refused number place) n rest = turnedAway number place
 
--- "First the machine line"; a line that is none, or is missing, is illegible at line 1
+-- "First the machine line": any other line there, or no line, is illegible at line 1
 unfoldable pub opening : Lines → Opening
 opening ls =
     let why = MalformedLine 1 in
