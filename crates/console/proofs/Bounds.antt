@@ -17,7 +17,7 @@ use Rattle.text.specs.Lines.{Lines, tail, line, before, lines}
 use Rattle.text.proofs.Numerals.{one-reading}
 use Rattle.lines.specs.Forms.{Query, Form, machine, part, asked, text}
 use Rattle.lines.specs.Read.{read, next, machineCount, entry, query, nextAs}
-use Rattle.lines.specs.Machine.{most, countTests, turnedAway, byCount, opening}
+use Rattle.lines.specs.Machine.{most, countTests, byCount, noMachine, opening}
 use Rattle.lines.proofs.Legible.{first-read, read-exactly}
 use Rattle.console.specs.Print.{machineLine, given}
 use Rattle.console.specs.Run.{illegible, answer, leftover, questions}
@@ -176,7 +176,7 @@ unfolding opening machineRun run Option·elim
 run-length ls h = by-line (nextAs machineCount ls) refl
   where
     by-line : (o : Option (ℕ × Lines)) → nextAs machineCount ls ≡ o
-        → length (machineRun (Option·elim o (turnedAway 12 1) (λ found. byCount (verdict (countTests (found .0))) (found .0) (found .1))))
+        → length (machineRun (Option·elim o noMachine (λ found. byCount (verdict (countTests (found .0))) (found .0) (found .1))))
         ≤ perByte * byteCount ls + besides
     by-line none e = let last = illegible-length 1 (omega arith) in omega arith
     by-line (some (n, rest)) e =

@@ -27,8 +27,10 @@ unfoldable pub byCount : Verdict → ℕ → Lines → Opening
 byCount accepted n rest = machineOf n rest
 byCount (refused number place) n rest = turnedAway number place
 
--- "First the machine line": any other line there, or no line, is illegible at line 1
+-- any other line in its place, or no line, is illegible at line 1
+abbrev pub noMachine : Opening
+noMachine = turnedAway (numberOf (MalformedLine 1)) (placeOf (MalformedLine 1))
+
+-- "First the machine line"
 unfoldable pub opening : Lines → Opening
-opening ls =
-    let why = MalformedLine 1 in
-    Option·elim (nextAs machineCount ls) (turnedAway (numberOf why) (placeOf why)) λ found. byCount (verdict (countTests (found .0))) (found .0) (found .1)
+opening ls = Option·elim (nextAs machineCount ls) noMachine λ found. byCount (verdict (countTests (found .0))) (found .0) (found .1)
