@@ -15,10 +15,11 @@ abbrev pub writtenOf : Written → Bool × ℕ
 writtenOf (Text bytes) = (true, bytes)
 writtenOf (Short bytes) = (false, bytes)
 
--- how many bytes are printed at most for each byte of an input, and how many besides
+-- how many bytes are printed at most for each byte of an input
 abbrev pub perByte : ℕ
 perByte = 4
 
+-- how many bytes are printed at most besides
 abbrev pub besides : ℕ
 besides = 64
 

@@ -10,9 +10,10 @@ ghost use Rattle.console.specs.Whole.{room as Whole·room};
 // The most bytes of an input.
 pub const MOST_BYTES: usize = 65536;
 
-// How many bytes are printed at most for each byte of an input, and how many besides.
+// How many bytes are printed at most for each byte of an input.
 const PER_BYTE: usize = 4;
 
+// How many bytes are printed at most besides.
 const BESIDES: usize = 64;
 
 // How many bytes hold whatever is printed for any input.

@@ -1,5 +1,5 @@
 // The carrier of one pair of an accepted sheet's parts by the label rule and by the tour rule, and the first and last of a list in preorder. The tables
-// are the sheet's own: a call of `routes` has compared them. Each rule takes constant time.
+// are the sheet's own: a call of `routes` has compared them, once for all its pairs. After that each rule takes constant time a pair.
 
 mod blocks;
 mod steps;
