@@ -1,6 +1,6 @@
--- What is shown of document 01's definitions, in its words: of every accepted sheet, and of no other input.
+-- What is shown of the documents' definitions, in their words: of every accepted sheet, and of no other input.
 -- Assumes nothing.
-use Prim.Native.Nat.{ℕ, _+_, _≤_, _<_}
+use Prim.Native.Nat.{ℕ, _+_, _-_, _≤_, _<_}
 use native.Mathlib.Nat.{le-trans}
 use native.Mathlib.Omega.{arith}
 use mathlib.Core.Path.{_≡_, _∙_}
@@ -8,12 +8,12 @@ use mathlib.Core.Logic.{_↔_}
 use mathlib.Core.Bool.{false}
 use mathlib.Core.List.{List, [], _∷_, List·Memᴰ}
 use lib.Dec.{lit<}
-use lib.ListN.{length}
+use lib.ListN.{length, getD, take, drop}
 use Rattle.tree.specs.Tree.{climb, Ancestor, rootOf, level, Tree}
 use Rattle.tree.specs.Lca.{Parts, Lca, lca}
 use Rattle.tree.specs.Tests.{limit, Accepted}
-use Rattle.tree.specs.Preorder.{Preorder, preorder, preorderNumber, size}
-use Rattle.tree.specs.Buffers.{labelCells, tourCells, liftCells, workCells, Fit, tablesFits}
+use Rattle.tree.specs.Preorder.{Preorder, preorder, preorderNumber, size, subtree}
+use Rattle.tree.specs.Buffers.{labelCells, tourCells, liftCells, orderCells, workCells, Fit, tablesFits}
 use Rattle.tree.specs.Labels.{inlabel, topmost, labelTable}
 use Rattle.tree.specs.Tour.{tourTable}
 use Rattle.tree.specs.Lifts.{liftTable}
@@ -26,6 +26,8 @@ use Rattle.tree.proofs.Lcas.{lca-found, lca-only, pair-only}
 use Rattle.tree.proofs.Preorders.{preorder-meets, preorder-only}
 use Rattle.tree.proofs.Inlabels.{MostZeros, size-pos, inlabel-most, inlabel-formula}
 use Rattle.tree.proofs.Intervals.{carried-from, carried-to, interval-carried}
+use Rattle.tree.proofs.Sizes.{preorder-length}
+use Rattle.tree.proofs.Subtrees.{subtree-slice, subtree-first, subtree-member}
 use Rattle.tree.proofs.Tours.{tour-length}
 use Rattle.tree.proofs.Cells.{label-length, tour-table-length, lift-length}
 use Rattle.tree.proofs.ByLabels.{labels-lca}
@@ -64,19 +66,27 @@ carries-interval s e a v ha hv =
       λ q. interval-carried t ha hv (q .0) (q .1),
     )
 
+-- document 02, 2026-01: the parts that a part carries are one stretch of the preorder, "beginning with it and holding every part it carries and no other"
+pub one-stretch : (s : List ℕ) → Accepted s → (v : ℕ) → v < length s
+    → (subtree s v ≡ take (size s v) (drop (preorderNumber s v - 1) (preorder s))) × (getD (subtree s v) 0 0 ≡ v)
+    × ((u : ℕ) → List·Memᴰ u (subtree s v) ↔ ((u < length s) × Ancestor s v u))
+one-stretch s e v h = let t = accepted-tree s e .0 in (subtree-slice t v h, subtree-first t v h, subtree-member t v h)
+
 -- an accepted sheet's own tables have the exact lengths that a call asks for
 pub own-tables-fit : (s : List ℕ) → Accepted s
     → (length (labelTable s) ≡ labelCells (length s)) × (length (tourTable s) ≡ tourCells (length s)) × (length (liftTable s) ≡ liftCells (length s))
+    × (length (preorder s) ≡ orderCells (length s))
 own-tables-fit s e =
     let t = accepted-tree s e .0 in
-    (label-length s, tour-table-length s (tour-length t), lift-length s)
+    (label-length s, tour-table-length s (tour-length t), lift-length s, preorder-length t)
 
 -- "misfit .. lowest buffer below": where a table or work does not fit, or a buffer of the call's own, that or a lower one is named
 pub misfit-lowest : (t : Lent) (work : List ℕ) (further : ℕ) (b : Fit)
-    → List·Memᴰ b (tablesFits (length (t .parents)) (length (t .label)) (length (t .tour)) (length (t .lift)) (workCells (length (t .parents))) (length work))
+    → List·Memᴰ b
+    (tablesFits (length (t .parents)) (length (t .label)) (length (t .tour)) (length (t .lift)) (length (t .order)) (workCells (length (t .parents))) (length work))
     → b .fits ≡ false → (0 < unfitOf t work further) × (unfitOf t work further ≤ b .buffer)
 misfit-lowest t work further b m e =
-    let (some, most) = unfit-lowest 0 _ (lit< tt, (lit< tt, (lit< tt, (lit< tt, tt)))) b m e in
+    let (some, most) = unfit-lowest 0 _ (lit< tt, (lit< tt, (lit< tt, (lit< tt, (lit< tt, tt))))) b m e in
     let (named, low) = lower-first _ further some in
     (named, le-trans low most)
 

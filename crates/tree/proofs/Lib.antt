@@ -19,6 +19,7 @@ pub mod Sums
 pub mod Blocks
 pub mod Sizes
 pub mod Intervals
+pub mod Subtrees
 pub mod Tours
 pub mod Inlabels
 pub mod Paths

@@ -1,5 +1,5 @@
 -- Calls that are lent a sheet, or a sheet with its tables: what their lengths are where they fit; what is known of an accepted call, whose tables are the sheet's
--- own; and that with these, and buffers that fit, the question alone decides.
+-- own; and that with these, and buffers that fit, the question, or the part that is named, alone decides.
 -- Assumes nothing.
 use Prim.Native.Nat.{ℕ, _+_}
 use native.Mathlib.Nat.{le-of-eq}
@@ -10,21 +10,23 @@ use lib.Dec.{lit<}
 use lib.ListN.{length, take, drop, length-append}
 use lib.Seq.{take-at, drop-at}
 use Rattle.tree.specs.Verdict.{accepted}
-use Rattle.tree.specs.Buffers.{labelCells, tourCells, liftCells, workCells, sheetFits, tablesFits}
-use Rattle.tree.specs.Tests.{verdict, sheetTests, lentTests, staleTable, questionTests, Accepted}
+use Rattle.tree.specs.Buffers.{labelCells, tourCells, liftCells, orderCells, workCells, sheetFits, tablesFits}
+use Rattle.tree.specs.Tests.{verdict, sheetTests, lentTests, staleTable, nodeOutOfRange, questionTests, Accepted}
 use Rattle.tree.specs.Labels.{labelTable}
 use Rattle.tree.specs.Tour.{tourTable}
 use Rattle.tree.specs.Lifts.{liftTable}
+use Rattle.tree.specs.Preorder.{preorder}
 use Rattle.tree.specs.Tables.{Lent, own, endToEnd}
 use Rattle.tree.specs.Sections.{firstDifference}
 use Rattle.tree.specs.Nodes.{Small}
 use Rattle.tree.specs.Ready.{Ready}
-use Rattle.tree.specs.Lending.{sheetUnfit, unfitOf, lentVerdict, askedVerdict}
+use Rattle.tree.specs.Lending.{sheetUnfit, unfitOf, lentVerdict, askedVerdict, partVerdict}
 use Rattle.tree.proofs.Verdicts.{accepted-passed, accepted-on, accepted-both}
 use Rattle.tree.proofs.Acceptance.{accepted-tree}
 use Rattle.tree.proofs.Answers.{accepted-fits, stale-accepted}
 use Rattle.tree.proofs.Fits.{none-fitting, fitting-none, lower-second, lower-none}
 use Rattle.tree.proofs.Cells.{label-length, tour-table-length, lift-length}
+use Rattle.tree.proofs.Sizes.{preorder-length}
 use Rattle.tree.proofs.Tours.{tour-length}
 use Rattle.tree.proofs.Differences.{stale-place, difference-all, difference-none, same-all}
 use Rattle.tree.proofs.Claims.{own-tables-fit}
@@ -44,19 +46,21 @@ pub record Exact (t : Lent) (work : List ℕ) (further : ℕ) : Type 0 where
   pub tour-cells : length (t .tour) ≡ tourCells (length (t .parents))
   pub lift-cells : length (t .lift) ≡ liftCells (length (t .parents))
   pub work-cells : length work ≡ workCells (length (t .parents))
+  pub order-cells : length (t .order) ≡ orderCells (length (t .parents))
   pub further-fits : further ≡ 0
 
 pub exact : (t : Lent) (work : List ℕ) (further : ℕ) → unfitOf t work further ≡ 0 → Exact t work further
 exact t work further e =
     let n = length (t .parents) in
-    let fits = tablesFits n (length (t .label)) (length (t .tour)) (length (t .lift)) (workCells n) (length work) in
+    let fits = tablesFits n (length (t .label)) (length (t .tour)) (length (t .lift)) (length (t .order)) (workCells n) (length work) in
     let (mine, none) = lower-none _ further e in
-    let (label, (tour, (lift, (room, _)))) = none-fitting 0 fits (lit< tt, (lit< tt, (lit< tt, (lit< tt, tt)))) mine in
+    let (label, (tour, (lift, (room, (order, _))))) = none-fitting 0 fits (lit< tt, (lit< tt, (lit< tt, (lit< tt, (lit< tt, tt))))) mine in
     record {
       label-cells = eqb-true _ _ label;
       tour-cells = eqb-true _ _ tour;
       lift-cells = eqb-true _ _ lift;
       work-cells = eqb-true _ _ room;
+      order-cells = eqb-true _ _ order;
       further-fits = none;
     }
 
@@ -94,6 +98,7 @@ pub record Owned (t : Lent) (further : ℕ) : Type 0 where
   pub label : t .label ≡ labelTable (t .parents)
   pub tour : t .tour ≡ tourTable (t .parents)
   pub lift : t .lift ≡ liftTable (t .parents)
+  pub order : t .order ≡ preorder (t .parents)
   pub fits : further ≡ 0
 
 module _ (t : Lent) (work : List ℕ) (further : ℕ) where
@@ -117,17 +122,23 @@ module _ (t : Lent) (work : List ℕ) (further : ℕ) where
       let label : length (t .label) ≡ length (labelTable s) = x .label-cells ∙ sym (label-length s) in
       let tour : length (t .tour) ≡ length (tourTable s) = x .tour-cells ∙ sym (tour-table-length s (tour-length (small .tree))) in
       let lift : length (t .lift) ≡ length (liftTable s) = x .lift-cells ∙ sym (lift-length s) in
-      let long = append-length (t .label) _ (labelTable s) _ label (append-length (t .tour) (t .lift) (tourTable s) (liftTable s) tour lift) in
-      let (same-label, later) = append-split (t .label) (t .tour ++ t .lift) (labelTable s) (tourTable s ++ liftTable s) label (fresh long stale) in
-      let (same-tour, same-lift) = append-split (t .tour) (t .lift) (tourTable s) (liftTable s) tour later in
-      record { small = small; label = same-label; tour = same-tour; lift = same-lift; fits = x .further-fits }
+      let order : length (t .order) ≡ length (preorder s) = x .order-cells ∙ sym (preorder-length (small .tree)) in
+      let long =
+      append-length (t .label) _ (labelTable s) _ label
+      (append-length (t .tour) _ (tourTable s) _ tour (append-length (t .lift) (t .order) (liftTable s) (preorder s) lift order)) in
+      let (same-label, after-label) = append-split (t .label) _ (labelTable s) _ label (fresh long stale) in
+      let (same-tour, after-tour) = append-split (t .tour) (t .lift ++ t .order) (tourTable s) (liftTable s ++ preorder s) tour after-label in
+      let (same-lift, same-order) = append-split (t .lift) (t .order) (liftTable s) (preorder s) lift after-tour in
+      record { small = small; label = same-label; tour = same-tour; lift = same-lift; order = same-order; fits = x .further-fits }
 
 -- tables that are the sheet's own, taken together
 pub owned-is : (t : Lent) (further : ℕ) → Owned t further → t ≡ own (t .parents)
 owned-is t further o =
-    ap (λ (l : List ℕ). record { parents = t .parents; label = l; tour = t .tour; lift = t .lift }) (o .label)
-    ∙ ap (λ (l : List ℕ). record { parents = t .parents; label = labelTable (t .parents); tour = l; lift = t .lift }) (o .tour)
-    ∙ ap (λ (l : List ℕ). record { parents = t .parents; label = labelTable (t .parents); tour = tourTable (t .parents); lift = l }) (o .lift)
+    let s = t .parents in
+    ap (λ (l : List ℕ). record { parents = s; label = l; tour = t .tour; lift = t .lift; order = t .order }) (o .label)
+    ∙ ap (λ (l : List ℕ). record { parents = s; label = labelTable s; tour = l; lift = t .lift; order = t .order }) (o .tour)
+    ∙ ap (λ (l : List ℕ). record { parents = s; label = labelTable s; tour = tourTable s; lift = l; order = t .order }) (o .lift)
+    ∙ ap (λ (l : List ℕ). record { parents = s; label = labelTable s; tour = tourTable s; lift = liftTable s; order = l }) (o .order)
 
 -- ---- an accepted sheet's own tables
 
@@ -135,14 +146,27 @@ module _ (s : List ℕ) (accepts : Accepted s) where
   -- no buffer does not fit
   pub own-fits : (work : List ℕ) (further : ℕ) → length work ≡ workCells (length s) → further ≡ 0 → unfitOf (own s) work further ≡ 0
   own-fits work further room fits =
-      let (label, tour, lift) = own-tables-fit s accepts in
-      lower-second _ further (fitting-none _ (eq-eqb _ _ label, (eq-eqb _ _ tour, (eq-eqb _ _ lift, (eq-eqb _ _ room, tt))))) ∙ fits
+      let (label, tour, lift, order) = own-tables-fit s accepts in
+      lower-second _ further
+      (fitting-none _ (eq-eqb _ _ label, (eq-eqb _ _ tour, (eq-eqb _ _ lift, (eq-eqb _ _ room, (eq-eqb _ _ order, tt))))))
+      ∙ fits
+
+  -- and tests 1 to 8 accept
+  own-accepted : (work : List ℕ) (further : ℕ) → length work ≡ workCells (length s) → further ≡ 0 → lentVerdict (own s) work further ≡ accepted
+  own-accepted work further room fits =
+      let buffer = unfitOf (own s) work further in
+      let sheet : verdict (sheetTests s buffer) ≡ accepted = ap (λ (b : ℕ). verdict (sheetTests s b)) (own-fits work further room fits) ∙ accepts in
+      let fresh = stale-accepted (own s) (le-of-eq (sym (difference-none _ _ (record { cell = λ x h. refl })))) in
+      accepted-on (sheetTests s buffer) (staleTable (own s) ∷ []) sheet ∙ fresh
 
   -- so that the question alone decides
   pub question-decides : (work question : List ℕ) (further : ℕ) → length work ≡ workCells (length s) → further ≡ 0
       → askedVerdict (own s) work question further ≡ verdict (questionTests s 0 question)
   question-decides work question further room fits =
-      let buffer = unfitOf (own s) work further in
-      let sheet : verdict (sheetTests s buffer) ≡ accepted = ap (λ (b : ℕ). verdict (sheetTests s b)) (own-fits work further room fits) ∙ accepts in
-      let fresh = stale-accepted (own s) (le-of-eq (sym (difference-none _ _ (record { cell = λ x h. refl })))) in
-      accepted-on (lentTests (own s) buffer) (questionTests s 0 question) (accepted-on (sheetTests s buffer) (staleTable (own s) ∷ []) sheet ∙ fresh)
+      accepted-on (lentTests (own s) (unfitOf (own s) work further)) (questionTests s 0 question) (own-accepted work further room fits)
+
+  -- or the part that is named
+  pub part-decides : (work : List ℕ) (part : ℕ) → length work ≡ workCells (length s)
+      → partVerdict (own s) work part ≡ verdict (nodeOutOfRange s 0 (part ∷ []) ∷ [])
+  part-decides work part room =
+      accepted-on (lentTests (own s) (unfitOf (own s) work 0)) (nodeOutOfRange s 0 (part ∷ []) ∷ []) (own-accepted work 0 room refl)

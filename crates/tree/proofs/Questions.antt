@@ -1,20 +1,21 @@
--- What tests 9 to 11 answer, from what a call has found of a question on a tree: how many numbers it lists, and the first that is no part.
+-- What tests 9 to 11 answer, from what a call has found of a question on a tree: how many numbers it lists, and the first that is no part. With it, test 10 of a
+-- call that names one part.
 -- Assumes nothing.
 use Prim.Native.Nat.{ℕ, _+_, _≤_, _<_}
 use native.Mathlib.Nat.{le-refl, le-of-eq, lt-of-lt-of-le, lt-of-le-of-lt}
-use mathlib.Core.Path.{_≡_, sym, subst}
+use mathlib.Core.Path.{_≡_, refl, sym, subst}
 use mathlib.Core.Bool.{true}
 use mathlib.Core.List.{List, [], _∷_}
-use borrow.Author.Tests.{lt-ltb, le-ltb, ltb-true, lt-leb, leb-false, eqb-true}
+use borrow.Author.Tests.{lt-ltb, le-ltb, ltb-true, le-leb, lt-leb, leb-false, eqb-true}
 use lib.Dec.{lit<}
 use lib.ListN.{length, getD}
-use Rattle.tree.specs.Scan.{least, position}
+use Rattle.tree.specs.Scan.{least, leastFrom, position}
 use Rattle.tree.specs.Tree.{Tree}
 use Rattle.tree.specs.Lca.{Parts, isCommon}
 use Rattle.tree.specs.Verdict.{accepted, refused}
 use Rattle.tree.specs.Tests.{verdict, offSheet, nothingListed, nodeOutOfRange, noCommonAncestor, questionTests}
-use Rattle.tree.proofs.Scans.{least-at-most, least-before, least-none, position-here}
-use Rattle.tree.proofs.Verdicts.{Passed, first-refused, passed-accepted, accepted-passed}
+use Rattle.tree.proofs.Scans.{by-order, least-at-most, least-before, least-none, position-here}
+use Rattle.tree.proofs.Verdicts.{Passed, not-both, first-refused, passed-accepted, accepted-passed}
 use Rattle.tree.proofs.Answers.{bad-passes, bad-fails, Later}
 use Rattle.tree.proofs.Orders.{member-at, member-position}
 use Rattle.tree.proofs.Lcas.{common-test}
@@ -81,3 +82,25 @@ module _ (s : List ℕ) (first : ℕ) (question : List ℕ) where
   pub question-later : Later (questionTests s first question)
   unfolding nothingListed nodeOutOfRange noCommonAncestor
   question-later = (lit< tt, (lit< tt, (lit< tt, tt)))
+
+-- ---- test 10 of a call that names one part
+
+module _ (s : List ℕ) (part : ℕ) where
+  -- 10, at position 0, where it is none of the sheet's
+  pub refused-part : length s ≤ part → verdict (nodeOutOfRange s 0 (part ∷ []) ∷ []) ≡ refused 10 0
+  unfolding nodeOutOfRange least leastFrom verdict
+  refused-part h = rw (le-leb (length s) part h) refl
+
+  -- a part is accepted
+  pub accepted-part : part < length s → verdict (nodeOutOfRange s 0 (part ∷ []) ∷ []) ≡ accepted
+  unfolding nodeOutOfRange least leastFrom verdict
+  accepted-part h = rw (lt-leb (length s) part h) refl
+
+  -- and what is accepted is a part
+  pub part-accepted : verdict (nodeOutOfRange s 0 (part ∷ []) ∷ []) ≡ accepted → part < length s
+  part-accepted e = by-order (length s) part (λ h. absurd (not-both e (refused-part h))) (λ h. h)
+
+  -- this test is after the third
+  pub part-later : Later (nodeOutOfRange s 0 (part ∷ []) ∷ [])
+  unfolding nodeOutOfRange
+  part-later = (lit< tt, tt)

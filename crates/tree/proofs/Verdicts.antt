@@ -24,6 +24,11 @@ verdict-fail : (t : Test) (ts : List Test) → t .passes ≡ false → verdict (
 unfolding verdict
 verdict-fail t ts e = rw e
 
+-- a verdict accepts or refuses
+pub by-verdict : {A : Type 0} (v : Verdict) → (v ≡ accepted → A) → ((number place : ℕ) → v ≡ refused number place → A) → A
+by-verdict accepted f g = f refl
+by-verdict (refused number place) f g = g number place refl
+
 -- no verdict accepts and refuses
 pub not-both : {v : Verdict} {number place : ℕ} → v ≡ accepted → v ≡ refused number place → ⊥
 not-both {number = number} {place = place} e f =

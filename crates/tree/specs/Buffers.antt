@@ -1,4 +1,4 @@
--- The lent buffers (document 01, "Numbers on the operator's screen"): their numbers, their exact lengths, and what a call leaves in them.
+-- The lent buffers (document 01, "Numbers on the operator's screen", and document 02): their numbers, their exact lengths, and what a call leaves in them.
 -- n is the number of parts. Assumes nothing.
 use Prim.Native.Nat.{ℕ, _+_, _-_, _*_, _%_, _/_}
 use mathlib.Core.Bool.{Bool, cond}
@@ -29,6 +29,10 @@ tourCells n = visits n * (log2 (visits n) + 2) + n
 -- lift: rows 0 to l, l = log n
 abbrev pub liftCells : ℕ → ℕ
 liftCells n = n * (log2 n + 1)
+
+-- order: a cell for each part
+abbrev pub orderCells : ℕ → ℕ
+orderCells n = n
 
 -- work
 abbrev pub workCells : ℕ → ℕ
@@ -89,6 +93,10 @@ answerFit = exactFit 6 1
 abbrev pub trailFit : ℕ → Fit
 trailFit = exactFit 7 trailCells
 
+-- 8 order, of a sheet of n parts: "Misfit calls the new table buffer 8"
+abbrev pub orderFit : ℕ → ℕ → Fit
+orderFit n = exactFit 8 (orderCells n)
+
 -- the first of the lent buffers, listed by rising number, that does not fit; 0 where all fit
 unfoldable pub firstUnfit : List Fit → ℕ
 firstUnfit [] = 0
@@ -105,8 +113,9 @@ abbrev pub sheetFits : ℕ → ℕ → List Fit
 sheetFits want work = workFit want work ∷ []
 
 -- a sheet of n parts with its tables, and work
-abbrev pub tablesFits : (n label tour lift want work : ℕ) → List Fit
-tablesFits n label tour lift want work = labelFit n label ∷ tourFit n tour ∷ liftFit n lift ∷ sheetFits want work
+abbrev pub tablesFits : (n label tour lift order want work : ℕ) → List Fit
+tablesFits n label tour lift order want work =
+    labelFit n label ∷ tourFit n tour ∷ liftFit n lift ∷ workFit want work ∷ orderFit n order ∷ []
 
 -- a question of pairs
 abbrev pub pairsFits : ℕ → ℕ → List Fit

@@ -1,6 +1,6 @@
--- Document 01's "Known sheets": the cases marked P, gathered in one list; and last the row of the operator's table that no call gives, since no
--- code holds it. A case is a list of numbers that the definitions give, and the list that the document states; `proofs/Known.antt` has the one proof
--- that they agree.
+-- Document 01's "Known sheets": the cases marked P, gathered in one list; with them the row of the operator's table that no call gives, since no
+-- code holds it, and last cases of document 02's requests on the same seven parts, worked out by hand. A case is a list of numbers that the
+-- definitions give, and the list that is stated; `proofs/Known.antt` has the one proof that they agree.
 -- Assumes nothing.
 use Prim.Native.Nat.{ℕ, suc}
 use mathlib.Core.List.{List, [], _∷_, _++_}
@@ -11,15 +11,15 @@ use Rattle.tree.specs.declared.Outcome.the-variants.{Accepted, Refused}
 use Rattle.tree.specs.Scan.{tabulate}
 use Rattle.tree.specs.Lca.{lca}
 use Rattle.tree.specs.Verdict.{Verdict, accepted, refused, verdictOf}
-use Rattle.tree.specs.Tests.{verdict, sheetTests, noCommonAncestor}
-use Rattle.tree.specs.Preorder.{preorderNumber, size, tour}
-use Rattle.tree.specs.Buffers.{noCell, labelCells, tourCells, liftCells}
+use Rattle.tree.specs.Tests.{verdict, sheetTests, nodeOutOfRange, noCommonAncestor}
+use Rattle.tree.specs.Preorder.{preorderNumber, size, subtree, tour}
+use Rattle.tree.specs.Buffers.{noCell, labelCells, tourCells, liftCells, orderCells}
 use Rattle.tree.specs.Labels.{inlabel, ascendant, headNode, labelTable}
 use Rattle.tree.specs.Tables.{own}
 use Rattle.tree.specs.Routes.{byLabels, byTour}
 use Rattle.tree.specs.Trail.{trail, rowCells, byLifts, lifts, liftCount}
 
--- what the definitions give, and what the document states
+-- what the definitions give, and what is stated
 pub record Case : Type 0 where
   pub given : List ℕ
   pub stated : List ℕ
@@ -99,4 +99,14 @@ cases =
     ∷ checked (0 ∷ 2 ∷ 1 ∷ []) (Refused (Cycle 1)) 7 1
     -- row 11, "listed parts have no common carrier", at 0: of two parts that both name themselves
     ∷ record { given = shown (verdict (noCommonAncestor (0 ∷ 1 ∷ []) (0 ∷ 1 ∷ []) ∷ [])); stated = 11 ∷ 0 ∷ [] }
+    -- 2026-01: the parts in preorder, 7 cells; what part 1, part 2, a part that carries no other, and the root carry
+    ∷ record { given = own seven .order; stated = 0 ∷ 1 ∷ 3 ∷ 4 ∷ 2 ∷ 5 ∷ 6 ∷ [] }
+    ∷ record { given = orderCells 7 ∷ []; stated = 7 ∷ [] }
+    ∷ record { given = subtree seven 1; stated = 1 ∷ 3 ∷ 4 ∷ [] }
+    ∷ record { given = subtree seven 2; stated = 2 ∷ 5 ∷ 6 ∷ [] }
+    ∷ record { given = subtree seven 6; stated = 6 ∷ [] }
+    ∷ record { given = subtree seven 0; stated = 0 ∷ 1 ∷ 3 ∷ 4 ∷ 2 ∷ 5 ∷ 6 ∷ [] }
+    -- 10 at position 0, of a part that is none of the seven; a part of them
+    ∷ record { given = shown (verdict (nodeOutOfRange seven 0 (7 ∷ []) ∷ [])); stated = 10 ∷ 0 ∷ [] }
+    ∷ record { given = shown (verdict (nodeOutOfRange seven 0 (6 ∷ []) ∷ [])); stated = 0 ∷ 0 ∷ [] }
     ∷ []

@@ -7,7 +7,7 @@ use mathlib.Core.Bool.{Bool, cond, not, _&&_}
 use mathlib.Core.List.{List, [], _∷_, _++_}
 use lib.Dec.{eqb}
 use lib.ListN.{length, getD}
-use Rattle.tree.specs.Scan.{countBelow, position}
+use Rattle.tree.specs.Scan.{countBelow, keep, position}
 use Rattle.tree.specs.Tree.{parent, Ancestor, isAncestor, rootOf}
 
 -- in the order o, x stands before y
@@ -57,6 +57,10 @@ preorderNumber s v = suc (position (preorder s) v)
 -- "SIZE, the parts carried"
 unfoldable pub size : List ℕ → ℕ → ℕ
 size s v = countBelow (isAncestor s v) (length s)
+
+-- "every part it carries and no other", in preorder
+unfoldable pub subtree : List ℕ → ℕ → List ℕ
+subtree s v = keep (isAncestor s v) (preorder s)
 
 -- the visits of v and of all that it carries: v, and v again after each child's visits
 unfoldable pub tourIn : List ℕ → ℕ → ℕ → List ℕ

@@ -129,6 +129,10 @@ questionTests s first question = nothingListed question ∷ nodeOutOfRange s fir
 abbrev pub askedTests : Lent → ℕ → List ℕ → List Test
 askedTests t buffer question = lentTests t buffer ++ questionTests (t .parents) 0 question
 
+-- the tests of a call that names one part, 1 to 8 and 10: "a part (position 0 in test 10)"
+abbrev pub partTests : Lent → ℕ → ℕ → List Test
+partTests t buffer part = lentTests t buffer ++ (nodeOutOfRange (t .parents) 0 (part ∷ []) ∷ [])
+
 -- a sheet that is accepted where the buffers fit
 abbrev pub Accepted : List ℕ → Type 0
 Accepted s = verdict (sheetTests s 0) ≡ accepted

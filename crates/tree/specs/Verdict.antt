@@ -7,6 +7,8 @@ use Rattle.tree.specs.declared.Outcome.{Outcome}
 use Rattle.tree.specs.declared.Outcome.the-variants.{Accepted, Refused}
 use Rattle.tree.specs.declared.Traced.{Traced}
 use Rattle.tree.specs.declared.Traced.the-variants as traced
+use Rattle.tree.specs.declared.Located.{Located}
+use Rattle.tree.specs.declared.Located.the-variants as located
 
 -- "A refusal carries a number and a place"
 pub data Verdict : Type 0 where
@@ -52,3 +54,21 @@ liftsOf (traced.Refused r) = 0
 -- both: a pair that was traced, with the count of its lifts, or the number and the place of its refusal, which counts none
 abbrev pub tracedOf : Traced → Verdict × ℕ
 tracedOf r = (verdictOf (told r), liftsOf r)
+
+-- the answer of a call that locates a subtree as an outcome
+abbrev pub locatedAs : Located → Outcome
+locatedAs (located.At start count) = Accepted
+locatedAs (located.Refused r) = Refused r
+
+-- where the subtree begins, and how many cells it has; a refusal has none, from the table's first on
+abbrev pub startOf : Located → ℕ
+startOf (located.At start count) = start
+startOf (located.Refused r) = 0
+
+abbrev pub countOf : Located → ℕ
+countOf (located.At start count) = count
+countOf (located.Refused r) = 0
+
+-- all of it: a subtree that was located, with its start and its count, or the number and the place of the refusal
+abbrev pub locatedOf : Located → Verdict × ℕ × ℕ
+locatedOf r = (verdictOf (locatedAs r), startOf r, countOf r)

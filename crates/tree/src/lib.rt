@@ -24,7 +24,7 @@ pub enum Refusal {
     StaleTable(usize),
     // 9 "nothing listed"
     NothingListed,
-    // 10 "no such part", at a position of the question
+    // 10 "no such part", at a position of the numbers that are listed
     NodeOutOfRange(usize),
     // 11 "adrift"
     NoCommonAncestor,
@@ -41,6 +41,12 @@ pub enum Outcome {
 // What a call answers that traces a pair: the count of its lifts.
 pub enum Traced {
     Lifts(usize),
+    Refused(Refusal),
+}
+
+// What a call answers that locates the subtree of a part: the cell of the order table at which it begins, and the count of its cells.
+pub enum Located {
+    At(usize, usize),
     Refused(Refusal),
 }
 
