@@ -1,5 +1,6 @@
-// The columns of the label table after PREORDER and SIZE. Each is made in work from the sheet and the columns before it, for building and comparing alike: a call
-// of `tables` copies it out, or looks for the first cell that differs from it. The sheet is one rooted tree, and work has its exact length.
+// The columns of the label table after PREORDER and SIZE, and the order of the nodes, which some are made along. Each is made in work from the sheet and the
+// columns before it, for building and comparing alike: a call of `tables` copies it out, or looks for the first cell that differs from it. The sheet is one
+// rooted tree, and work has its exact length.
 
 mod along;
 mod steps;
@@ -11,12 +12,20 @@ ghost use lib.ListN.{length};
 ghost use Rattle.bits.specs.Bits.{log2};
 ghost use Rattle.tree.specs.Tree.{rootOf};
 ghost use Rattle.tree.specs.Labels.{labelTable, topmost};
-ghost use Rattle.tree.specs.Ready.{Columns, ColumnIn, ColumnOwn};
+ghost use Rattle.tree.specs.Ready.{Columns, ColumnIn, ColumnOwn, OrderIn};
 ghost use Rattle.cells.specs.Cells.{AgreeAt};
 ghost use Rattle.labels.specs.Heads.{headPlace};
 
 // No cell.
 const NONE: u16 = 65535;
+
+// The nodes in preorder, which are the order table, into the first n cells of work.
+pub fn order(parents: &[u16], label: &[u16], work: &mut [u16])
+    requires { ⌜ Columns (now parents) (now label) (now work) 1 ⌝ }
+    ensures { λ _. ⌜ OrderIn (now (parents .entry)) (now (work .exit)) ⌝ }
+{
+    along::order(parents, label, work);
+}
 
 // Column k, from 2 on, into the n cells of work from n on.
 pub fn column(k: usize, parents: &[u16], root: usize, label: &[u16], work: &mut [u16])

@@ -18,6 +18,7 @@ use Rattle.tree.specs.Buffers.{workCells, sheetFits}
 use Rattle.tree.specs.Labels.{labelTable}
 use Rattle.tree.specs.Tour.{tourTable}
 use Rattle.tree.specs.Lifts.{liftTable}
+use Rattle.tree.specs.Preorder.{preorder}
 use Rattle.tree.specs.Tables.{Lent, own, endToEnd}
 use Rattle.tree.specs.Sections.{firstDifference}
 use Rattle.tree.specs.Lending.{unfitOf}
@@ -46,24 +47,34 @@ check-accepts s before g fits = accepts s _ (g .outcome) (fitting-none (sheetFit
 
 -- ---- building
 
-module _ {t : Lent} {before label′ tour′ lift′ after : List ℕ} {r : Outcome} (g : BuildGives t before r label′ tour′ lift′ after) where
+module _ {t : Lent} {before label′ tour′ lift′ order′ after : List ℕ} {r : Outcome} (g : BuildGives t before r label′ tour′ lift′ order′ after) where
   -- the same of the call that builds
   pub build-accepts : unfitOf t before 0 ≡ 0 → (r ≡ Accepted) ↔ (Tree (t .parents) × (length (t .parents) ≤ limit))
   build-accepts fits = accepts (t .parents) _ (g .answered .outcome) fits
 
-  -- "Every table cell is what Schieber-Vishkin, Bender/Farach-Colton or the doubling rule define"
-  pub build-fills : r ≡ Accepted → (label′ ≡ labelTable (t .parents)) × (tour′ ≡ tourTable (t .parents)) × (lift′ ≡ liftTable (t .parents))
+  -- "Every table cell is what Schieber-Vishkin, Bender/Farach-Colton or the doubling rule define", and the fourth table "holds the parts in preorder"
+  pub build-fills : r ≡ Accepted
+      → (label′ ≡ labelTable (t .parents)) × (tour′ ≡ tourTable (t .parents)) × (lift′ ≡ liftTable (t .parents)) × (order′ ≡ preorder (t .parents))
   build-fills e =
       let v = buildVerdict t before in
-      let accepting : v ≡ accepted = stage-yes (g .answered) e in
-      (g .label ∙ sym (filled-own v _ _ accepting), g .tour ∙ sym (filled-own v _ _ accepting), g .lift ∙ sym (filled-own v _ _ accepting))
+      let accepting : v ≡ accepted = stage-yes (g .answered) e in (
+        g .label ∙ sym (filled-own v _ _ accepting),
+        g .tour ∙ sym (filled-own v _ _ accepting),
+        g .lift ∙ sym (filled-own v _ _ accepting),
+        g .order ∙ sym (filled-own v _ _ accepting),
+      )
 
   -- "A refusal .. changes no table"
-  pub build-keeps : {number place : ℕ} → verdictOf r ≡ refused number place → (label′ ≡ t .label) × (tour′ ≡ t .tour) × (lift′ ≡ t .lift)
+  pub build-keeps : {number place : ℕ} → verdictOf r ≡ refused number place
+      → (label′ ≡ t .label) × (tour′ ≡ t .tour) × (lift′ ≡ t .lift) × (order′ ≡ t .order)
   build-keeps e =
       let v = buildVerdict t before in
-      let refusing : v ≡ refused _ _ = sym (g .answered .outcome) ∙ e in
-      (g .label ∙ sym (filled-kept v _ _ _ _ refusing), g .tour ∙ sym (filled-kept v _ _ _ _ refusing), g .lift ∙ sym (filled-kept v _ _ _ _ refusing))
+      let refusing : v ≡ refused _ _ = sym (g .answered .outcome) ∙ e in (
+        g .label ∙ sym (filled-kept v _ _ _ _ refusing),
+        g .tour ∙ sym (filled-kept v _ _ _ _ refusing),
+        g .lift ∙ sym (filled-kept v _ _ _ _ refusing),
+        g .order ∙ sym (filled-kept v _ _ _ _ refusing),
+      )
 
 -- ---- comparing
 

@@ -52,13 +52,14 @@ tested-fits t work after further unfit found tested e same =
       label-cells = x .label-cells;
       tour-cells = x .tour-cells;
       lift-cells = x .lift-cells;
+      order-cells = x .order-cells;
     }
 
 -- ---- building
 
 module _ (t : Lent) (work : List ℕ) {r : Outcome} {after : List ℕ} (tested : Tested (t .parents) (unfitOf t work 0) work r after) where
   -- a refused call leaves the tables as they were
-  pub build-refused : {why : Refusal} → r ≡ Refused why → BuildGives t work r (t .label) (t .tour) (t .lift) after
+  pub build-refused : {why : Refusal} → r ≡ Refused why → BuildGives t work r (t .label) (t .tour) (t .lift) (t .order) after
   build-refused e =
       let v = buildVerdict t work in
       let refuses = stage-no tested e in
@@ -67,11 +68,12 @@ module _ (t : Lent) (work : List ℕ) {r : Outcome} {after : List ℕ} (tested :
         label = filled-kept v _ _ _ _ refuses;
         tour = filled-kept v _ _ _ _ refuses;
         lift = filled-kept v _ _ _ _ refuses;
+        order = filled-kept v _ _ _ _ refuses;
       }
 
   -- an accepted one fills them
-  pub build-accepted : {label′ tour′ lift′ work′ : List ℕ} → r ≡ Accepted → length work ≡ workCells (length (t .parents))
-      → Built (t .parents) label′ tour′ lift′ work′ → BuildGives t work r label′ tour′ lift′ work′
+  pub build-accepted : {label′ tour′ lift′ order′ work′ : List ℕ} → r ≡ Accepted → length work ≡ workCells (length (t .parents))
+      → Built (t .parents) label′ tour′ lift′ order′ work′ → BuildGives t work r label′ tour′ lift′ order′ work′
   build-accepted e room built =
       let v = buildVerdict t work in
       let accepts : v ≡ accepted = stage-yes tested e in
@@ -83,4 +85,5 @@ module _ (t : Lent) (work : List ℕ) {r : Outcome} {after : List ℕ} (tested :
         label = built .label ∙ filled-own v _ _ accepts;
         tour = built .tour ∙ filled-own v _ _ accepts;
         lift = built .lift ∙ filled-own v _ _ accepts;
+        order = built .order ∙ filled-own v _ _ accepts;
       }

@@ -7,7 +7,8 @@ use mathlib.Core.Path.{_≡_, sym, _∙_}
 use mathlib.Core.List.{List}
 use lib.ListN.{length}
 use Rattle.tree.specs.Sections.{Same, firstDifference}
-use Rattle.tree.proofs.Differences.{same-none, same-join, same-trans, difference-at}
+use Rattle.tree.proofs.Scans.{by-order}
+use Rattle.tree.proofs.Differences.{same-none, same-join, same-trans, same-all, difference-at, difference-none}
 use Rattle.cells.specs.Cells.{Copied, Agree}
 
 -- the sections before it and the section itself
@@ -39,3 +40,17 @@ agree-all-first g q h = rw zero-add at (agree-all (same-none _ _ 0 0) g q h)
 pub agree-parts-first : {a b own : List ℕ} {j k r : ℕ} → Agree a 0 b j k r → Same b j own 0 k → k ≤ length own → r < k
     → r ≡ firstDifference a own
 agree-parts-first g q room h = sym (zero-add _) ∙ agree-parts (same-none _ _ 0 0) g q (omega arith) h
+
+-- a table that is one section
+
+pub copied-whole : {before after from own : List ℕ} {j k : ℕ} → Copied before 0 from j k after → Same from j own 0 k → length after ≡ k → length own ≡ k
+    → after ≡ own
+copied-whole {before} {after} {from} {own} c q cells whole =
+    let all = copied-upto (same-none before own 0 0) c q in
+    same-all after own (cells ∙ sym whole) (rw whole (rw zero-add at all))
+
+pub agree-whole : {a b own : List ℕ} {j k r : ℕ} → Agree a 0 b j k r → Same b j own 0 k → length own ≡ k → r ≡ firstDifference a own
+agree-whole {a} {b} {own} {j} {k} {r} g q whole =
+    by-order k r
+    (λ h. le-antisymm (g .most) h ∙ sym whole ∙ sym (difference-none a own (rw whole (agree-all-first g q h))))
+    (λ h. agree-parts-first g q (omega arith) h)

@@ -1,4 +1,4 @@
--- Test 8 from the first differences of the three tables, found one after the other: the tables end to end differ first where the first of
+-- Test 8 from the first differences of the four tables, found one after the other: the tables end to end differ first where the first of
 -- them does that is not the sheet's own.
 -- Assumes nothing.
 use Prim.Native.Nat.{ℕ, _+_, _≤_, _<_}
@@ -9,11 +9,13 @@ use lib.ListN.{length, length-append}
 use Rattle.tree.specs.Labels.{labelTable}
 use Rattle.tree.specs.Tour.{tourTable}
 use Rattle.tree.specs.Lifts.{liftTable}
+use Rattle.tree.specs.Preorder.{preorder}
 use Rattle.tree.specs.Tables.{Lent, own, endToEnd}
 use Rattle.tree.specs.Sections.{firstDifference}
 use Rattle.tree.specs.Verdict.{accepted, refused}
 use Rattle.tree.specs.Tests.{verdict, staleTable}
 use Rattle.tree.proofs.Cells.{label-length, lift-length}
+use Rattle.tree.proofs.Sizes.{preorder-length}
 use Rattle.tree.proofs.Differences.{difference-left, difference-right}
 use Rattle.tree.proofs.Answers.{stale-refused, stale-accepted}
 use Rattle.tables.specs.Sections.{Fits}
@@ -30,18 +32,30 @@ module _ {t : Lent} {work : List ℕ} (f : Fits t work) where
   lift-same : length (t .lift) ≡ length (liftTable (t .parents))
   lift-same = f .lift-cells ∙ sym (lift-length (t .parents))
 
-  whole : length (endToEnd (own (t .parents))) ≡ length (t .label) + length (t .tour) + length (t .lift)
+  order-same : length (t .order) ≡ length (preorder (t .parents))
+  order-same = f .order-cells ∙ sym (preorder-length (f .ready .tree))
+
+  -- the sheet's own from the tour table on, and from the lift table on
+  abbrev later : List ℕ
+  later = liftTable (t .parents) ++ preorder (t .parents)
+
+  abbrev late : List ℕ
+  late = tourTable (t .parents) ++ later
+
+  whole : length (endToEnd (own (t .parents))) ≡ length (t .label) + length (t .tour) + length (t .lift) + length (t .order)
   whole =
-      let two = length-append (labelTable (t .parents)) (tourTable (t .parents) ++ liftTable (t .parents)) in
-      let one = length-append (tourTable (t .parents)) (liftTable (t .parents)) in
+      let three = length-append (labelTable (t .parents)) late in
+      let two = length-append (tourTable (t .parents)) later in
+      let one = length-append (liftTable (t .parents)) (preorder (t .parents)) in
       let a = label-same in
       let b = tour-same in
       let c = lift-same in
+      let d = order-same in
       omega arith
 
   -- where they differ first at d
-  refused-at : {d : ℕ} → firstDifference (endToEnd t) (endToEnd (own (t .parents))) ≡ d → d < length (t .label) + length (t .tour) + length (t .lift)
-      → refused 8 d ≡ verdict (staleTable t ∷ [])
+  refused-at : {d : ℕ} → firstDifference (endToEnd t) (endToEnd (own (t .parents))) ≡ d
+      → d < length (t .label) + length (t .tour) + length (t .lift) + length (t .order) → refused 8 d ≡ verdict (staleTable t ∷ [])
   refused-at e h = let all = whole in ap (refused 8) (sym e) ∙ sym (stale-refused t (omega arith))
 
   -- the label table is stale
@@ -53,12 +67,10 @@ module _ {t : Lent} {work : List ℕ} (f : Fits t work) where
 
   module _ {a : ℕ} (labels : a ≡ firstDifference (t .label) (labelTable (t .parents))) (fresh : length (t .label) ≤ a) where
     behind-label : firstDifference (endToEnd t) (endToEnd (own (t .parents)))
-        ≡ length (t .label) + firstDifference (t .tour ++ t .lift) (tourTable (t .parents) ++ liftTable (t .parents))
+        ≡ length (t .label) + firstDifference (t .tour ++ (t .lift ++ t .order)) late
     behind-label =
         let same = label-same in
-        let right =
-        difference-right (t .label) (labelTable (t .parents)) (t .tour ++ t .lift) (tourTable (t .parents) ++ liftTable (t .parents)) label-same
-        (omega arith) in
+        let right = difference-right (t .label) (labelTable (t .parents)) (t .tour ++ (t .lift ++ t .order)) late label-same (omega arith) in
         omega arith
 
     -- the tour table is
@@ -66,27 +78,45 @@ module _ {t : Lent} {work : List ℕ} (f : Fits t work) where
         → refused 8 (length (t .label) + at) ≡ verdict (staleTable t ∷ [])
     stale-tour e h =
         let same = tour-same in
-        let left = difference-left (t .tour) (tourTable (t .parents)) (t .lift) (liftTable (t .parents)) tour-same (omega arith) in
+        let left = difference-left (t .tour) (tourTable (t .parents)) (t .lift ++ t .order) later tour-same (omega arith) in
         refused-at (behind-label ∙ ap (λ (x : ℕ). length (t .label) + x) (left ∙ sym e)) (omega arith)
 
     module _ {b : ℕ} (tours : b ≡ firstDifference (t .tour) (tourTable (t .parents))) (fresh-too : length (t .tour) ≤ b) where
       behind-tour : firstDifference (endToEnd t) (endToEnd (own (t .parents)))
-          ≡ length (t .label) + length (t .tour) + firstDifference (t .lift) (liftTable (t .parents))
+          ≡ length (t .label) + length (t .tour) + firstDifference (t .lift ++ t .order) later
       behind-tour =
           let same = tour-same in
           let before = behind-label in
-          let right = difference-right (t .tour) (tourTable (t .parents)) (t .lift) (liftTable (t .parents)) tour-same (omega arith) in
+          let right = difference-right (t .tour) (tourTable (t .parents)) (t .lift ++ t .order) later tour-same (omega arith) in
           omega arith
 
       -- the lift table is
       pub stale-lift : {at : ℕ} → at ≡ firstDifference (t .lift) (liftTable (t .parents)) → at < length (t .lift)
           → refused 8 (length (t .label) + length (t .tour) + at) ≡ verdict (staleTable t ∷ [])
-      stale-lift e h = let before = behind-tour in refused-at (omega arith) (omega arith)
-
-      -- none is
-      pub stale-none : {at : ℕ} → at ≡ firstDifference (t .lift) (liftTable (t .parents)) → length (t .lift) ≤ at
-          → accepted ≡ verdict (staleTable t ∷ [])
-      stale-none e h =
+      stale-lift e h =
           let before = behind-tour in
-          let all = whole in
-          sym (stale-accepted t (omega arith))
+          let same = lift-same in
+          let left = difference-left (t .lift) (liftTable (t .parents)) (t .order) (preorder (t .parents)) lift-same (omega arith) in
+          refused-at (omega arith) (omega arith)
+
+      module _ {c : ℕ} (lifts : c ≡ firstDifference (t .lift) (liftTable (t .parents))) (fresh-lift : length (t .lift) ≤ c) where
+        behind-lift : firstDifference (endToEnd t) (endToEnd (own (t .parents)))
+            ≡ length (t .label) + length (t .tour) + length (t .lift) + firstDifference (t .order) (preorder (t .parents))
+        behind-lift =
+            let same = lift-same in
+            let before = behind-tour in
+            let right = difference-right (t .lift) (liftTable (t .parents)) (t .order) (preorder (t .parents)) lift-same (omega arith) in
+            omega arith
+
+        -- the order table is
+        pub stale-order : {at : ℕ} → at ≡ firstDifference (t .order) (preorder (t .parents)) → at < length (t .order)
+            → refused 8 (length (t .label) + length (t .tour) + length (t .lift) + at) ≡ verdict (staleTable t ∷ [])
+        stale-order e h = let before = behind-lift in refused-at (omega arith) (omega arith)
+
+        -- none is
+        pub stale-none : {at : ℕ} → at ≡ firstDifference (t .order) (preorder (t .parents)) → length (t .order) ≤ at
+            → accepted ≡ verdict (staleTable t ∷ [])
+        stale-none e h =
+            let before = behind-lift in
+            let all = whole in
+            sym (stale-accepted t (omega arith))

@@ -1,31 +1,34 @@
-// Filling the three tables of an accepted sheet, section by section: each is made in work and copied out, but for the rows of the tour table after the first,
+// Filling the four tables of an accepted sheet, section by section: each is made in work and copied out, but for the rows of the tour table after the first,
 // which are filled straight into the table.
 
 ghost use mathlib.Core.Path.{_≡_};
 ghost use Prim.Native.Nat.{_+_};
 ghost use lib.ListN.{length};
-ghost use Rattle.tree.specs.Buffers.{visits, labelCells, tourCells, liftCells};
+ghost use Rattle.tree.specs.Buffers.{visits, labelCells, tourCells, liftCells, orderCells};
 ghost use Rattle.tree.specs.Labels.{labelTable};
 ghost use Rattle.tree.specs.Tour.{tourTable};
 ghost use Rattle.tree.specs.Lifts.{liftTable};
+ghost use Rattle.tree.specs.Preorder.{preorder};
 ghost use Rattle.tree.specs.Ready.{Ready, Columns, TourOwn};
 ghost use Rattle.tree.specs.Tables.{lentBy};
 ghost use Rattle.tables.specs.Sections.{Fits, Built};
 
-// All three, and work is cleared.
+// All four, and work is cleared.
 pub(crate) fn tables(
     parents: &[u16],
     label: &mut [u16],
     tour: &mut [u16],
     lift: &mut [u16],
+    order: &mut [u16],
     work: &mut [u16],
 )
-    requires { ⌜ Fits (lentBy parents label tour lift) (now work) ⌝ }
-    ensures { λ _. ⌜ Built (now (parents .entry)) (now (label .exit)) (now (tour .exit)) (now (lift .exit)) (now (work .exit)) ⌝ }
+    requires { ⌜ Fits (lentBy parents label tour lift order) (now work) ⌝ }
+    ensures { λ _. ⌜ Built (now (parents .entry)) (now (label .exit)) (now (tour .exit)) (now (lift .exit)) (now (order .exit)) (now (work .exit)) ⌝ }
 {
     self::label(parents, label, work);
     self::tour(parents, label, tour, work);
     self::lift(parents, lift, work);
+    self::order(parents, label, order, work);
     cells::clear(work);
 }
 
@@ -97,4 +100,13 @@ pub(crate) fn lift(parents: &[u16], table: &mut [u16], work: &mut [u16])
         power = 2 * power;
         cells::copy(table, at, work, 0, n);
     }
+}
+
+// The order table: the parts in preorder.
+pub(crate) fn order(parents: &[u16], label: &[u16], table: &mut [u16], work: &mut [u16])
+    requires { ⌜ Columns (now parents) (now label) (now work) 6 × (length (now table) ≡ orderCells (length (now parents))) ⌝ }
+    ensures { λ _. ⌜ now (table .exit) ≡ preorder (now (parents .entry)) ⌝ }
+{
+    labels::order(parents, label, work);
+    cells::copy(table, 0, work, 0, parents.len());
 }

@@ -3,7 +3,8 @@
 ghost use Prim.Native.Nat.{_≤_, _<_};
 ghost use mathlib.Core.Path.{_≡_};
 ghost use Rattle.tree.specs.Tests.{limit};
-ghost use Rattle.tree.specs.Buffers.{sheetFits, tablesFits, firstUnfit, lowerUnfit};
+ghost use mathlib.Core.List.{[], _∷_};
+ghost use Rattle.tree.specs.Buffers.{workFit, orderFit, sheetFits, tablesFits, firstUnfit, lowerUnfit};
 
 // The most parts that a sheet may have.
 pub(crate) const LIMIT: usize = 16384;
@@ -17,6 +18,8 @@ const LIFT: usize = 3;
 
 const WORK: usize = 4;
 
+const ORDER: usize = 8;
+
 // The lowest of the tables and work that does not fit, by their lengths, for a sheet of n parts and a call that wants so much work; 0 where all fit. Sheets of
 // no part and of too many have no tables, and are refused before their buffers are looked at.
 pub(crate) fn first_unfit(
@@ -24,10 +27,11 @@ pub(crate) fn first_unfit(
     label: usize,
     tour: usize,
     lift: usize,
+    order: usize,
     want: usize,
     work: usize,
 ) -> usize
-    ensures { λ r. ⌜ (0 < n → n ≤ limit → r ≡ firstUnfit (tablesFits n label tour lift want work)) ⌝ }
+    ensures { λ r. ⌜ (0 < n → n ≤ limit → r ≡ firstUnfit (tablesFits n label tour lift order want work)) ⌝ }
 {
     if n == 0 {
         return 0;
@@ -45,7 +49,20 @@ pub(crate) fn first_unfit(
     if lift != n * (bits::log2(n as u16) as usize + 1) {
         return LIFT;
     }
-    work_unfit(want, work)
+    later_unfit(n, order, want, work)
+}
+
+// The same of those that come after the lift table: work and the order table.
+fn later_unfit(n: usize, order: usize, want: usize, work: usize) -> usize
+    ensures { λ r. ⌜ r ≡ firstUnfit (workFit want work ∷ orderFit n order ∷ []) ⌝ }
+{
+    if work != want {
+        return WORK;
+    }
+    if order != n {
+        return ORDER;
+    }
+    0
 }
 
 // The number of work where it does not have so many cells, or 0.

@@ -1,4 +1,4 @@
-// Checking a sheet, building its three tables, and comparing lent tables with it: tests 1 to 8 of document 01's table. Each call takes a time
+// Checking a sheet, building its four tables, and comparing lent tables with it: tests 1 to 8 of document 01's table. Each call takes a time
 // at most proportional to n log n for n parts, which is the size of the tables; a check usually takes a few passes over the sheet.
 
 mod fill;
@@ -35,41 +35,51 @@ pub fn admit_sheet(parents: &[u16], further: usize, work: &mut [u16]) -> Outcome
     admit(parents, unfit, work)
 }
 
-// Builds the three tables of the sheet `parents`: tests 1 to 7, and an accepted call fills every cell of `label`, `tour` and `lift`. A refused call
-// changes none of them. `work` is as after `check`.
+// Builds the four tables of the sheet `parents`: tests 1 to 7, and an accepted call fills every cell of `label`, `tour`, `lift` and `order`. A refused
+// call changes none of them. `work` is as after `check`.
 pub fn build(
     parents: &[u16],
     label: &mut [u16],
     tour: &mut [u16],
     lift: &mut [u16],
+    order: &mut [u16],
     work: &mut [u16],
 ) -> Outcome
-    ensures { λ r. ⌜ BuildGives (lentBy (parents .entry) (label .entry) (tour .entry) (lift .entry))
-        (now (work .entry)) r (now (label .exit)) (now (tour .exit)) (now (lift .exit)) (now (work .exit)) ⌝ }
+    ensures { λ r. ⌜ BuildGives (lentBy (parents .entry) (label .entry) (tour .entry) (lift .entry) (order .entry))
+        (now (work .entry)) r (now (label .exit)) (now (tour .exit)) (now (lift .exit)) (now (order .exit)) (now (work .exit)) ⌝ }
 {
     let n = parents.len();
-    let unfit = fits::first_unfit(n, label.len(), tour.len(), lift.len(), 4 * n, work.len());
+    let unfit = fits::first_unfit(
+        n,
+        label.len(),
+        tour.len(),
+        lift.len(),
+        order.len(),
+        4 * n,
+        work.len(),
+    );
     let r = admit(parents, unfit, work);
     let Outcome::Accepted = r else {
         return r;
     };
-    fill::tables(parents, label, tour, lift, work);
+    fill::tables(parents, label, tour, lift, order, work);
     r
 }
 
-// Compares the three tables with the sheet `parents`: tests 1 to 8. The tables are stale at the first cell that is not the sheet's own, counted
+// Compares the four tables with the sheet `parents`: tests 1 to 8. The tables are stale at the first cell that is not the sheet's own, counted
 // from 0, the tables end to end. `work` is as after `check`.
 pub fn compare(
     parents: &[u16],
     label: &[u16],
     tour: &[u16],
     lift: &[u16],
+    order: &[u16],
     work: &mut [u16],
 ) -> Outcome
-    ensures { λ r. ⌜ LentGives (lentBy (parents .entry) (label .entry) (tour .entry) (lift .entry))
+    ensures { λ r. ⌜ LentGives (lentBy (parents .entry) (label .entry) (tour .entry) (lift .entry) (order .entry))
         0 (now (work .entry)) r (now (work .exit)) ⌝ }
 {
-    admit_lent(parents, label, tour, lift, 0, work)
+    admit_lent(parents, label, tour, lift, order, 0, work)
 }
 
 // The same for every call that is lent tables to read: tests 1 to 8, of a call whose lowest further buffer that does not fit is `further`, or 0. It is for the
@@ -79,20 +89,29 @@ pub fn admit_lent(
     label: &[u16],
     tour: &[u16],
     lift: &[u16],
+    order: &[u16],
     further: usize,
     work: &mut [u16],
 ) -> Outcome
-    ensures { λ r. ⌜ LentGives (lentBy (parents .entry) (label .entry) (tour .entry) (lift .entry))
+    ensures { λ r. ⌜ LentGives (lentBy (parents .entry) (label .entry) (tour .entry) (lift .entry) (order .entry))
         further (now (work .entry)) r (now (work .exit)) ⌝ }
 {
     let n = parents.len();
-    let own = fits::first_unfit(n, label.len(), tour.len(), lift.len(), 4 * n, work.len());
+    let own = fits::first_unfit(
+        n,
+        label.len(),
+        tour.len(),
+        lift.len(),
+        order.len(),
+        4 * n,
+        work.len(),
+    );
     let unfit = fits::lower(own, further);
     let r = admit(parents, unfit, work);
     let Outcome::Accepted = r else {
         return r;
     };
-    let found = stale::tables(parents, label, tour, lift, work);
+    let found = stale::tables(parents, label, tour, lift, order, work);
     cells::clear(work);
     found
 }

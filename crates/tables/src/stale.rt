@@ -6,10 +6,11 @@ use tree::Refusal;
 ghost use mathlib.Core.Path.{_≡_};
 ghost use Prim.Native.Nat.{_+_, _*_};
 ghost use lib.ListN.{length};
-ghost use Rattle.tree.specs.Buffers.{visits, labelCells, tourCells, liftCells};
+ghost use Rattle.tree.specs.Buffers.{visits, labelCells, tourCells, liftCells, orderCells};
 ghost use Rattle.tree.specs.Labels.{labelTable};
 ghost use Rattle.tree.specs.Tour.{tourTable};
 ghost use Rattle.tree.specs.Lifts.{liftTable};
+ghost use Rattle.tree.specs.Preorder.{preorder};
 ghost use Rattle.tree.specs.Sections.{firstDifference};
 ghost use mathlib.Core.List.{[], _∷_};
 ghost use Rattle.tree.specs.Tree.{rootOf};
@@ -20,17 +21,18 @@ ghost use Rattle.tree.specs.Tests.{verdict, staleTable};
 ghost use Rattle.tree.specs.Tables.{lentBy};
 ghost use Rattle.tables.specs.Sections.{Fits};
 
-// Test 8: the three tables end to end.
+// Test 8: the four tables end to end.
 pub(crate) fn tables(
     parents: &[u16],
     label: &[u16],
     tour: &[u16],
     lift: &[u16],
+    order: &[u16],
     work: &mut [u16],
 ) -> Outcome
-    requires { ⌜ Fits (lentBy parents label tour lift) (now work) ⌝ }
+    requires { ⌜ Fits (lentBy parents label tour lift order) (now work) ⌝ }
     ensures { λ r. ⌜ verdictOf r ≡ verdict
-        (staleTable (lentBy (parents .entry) (label .entry) (tour .entry) (lift .entry)) ∷ []) ⌝ }
+        (staleTable (lentBy (parents .entry) (label .entry) (tour .entry) (lift .entry) (order .entry)) ∷ []) ⌝ }
 {
     let at = self::label(parents, label, work);
     if at < label.len() {
@@ -43,6 +45,10 @@ pub(crate) fn tables(
     let at = self::lift(parents, lift, work);
     if at < lift.len() {
         return Outcome::Refused(Refusal::StaleTable(label.len() + tour.len() + at));
+    }
+    let at = self::order(parents, label, order, work);
+    if at < order.len() {
+        return Outcome::Refused(Refusal::StaleTable(label.len() + tour.len() + lift.len() + at));
     }
     Outcome::Accepted
 }
@@ -152,4 +158,13 @@ pub(crate) fn lift(parents: &[u16], table: &[u16], work: &mut [u16]) -> usize
         power = 2 * power;
     }
     at + n
+}
+
+// The first cell of an order table that is not the sheet's own; the table's length where there is none.
+pub(crate) fn order(parents: &[u16], label: &[u16], table: &[u16], work: &mut [u16]) -> usize
+    requires { ⌜ Columns (now parents) (now label) (now work) 6 × (length (now table) ≡ orderCells (length (now parents))) ⌝ }
+    ensures { λ r. ⌜ r ≡ firstDifference (now (table .entry)) (preorder (now (parents .entry))) ⌝ }
+{
+    labels::order(parents, label, work);
+    cells::agree(table, 0, work, 0, parents.len())
 }

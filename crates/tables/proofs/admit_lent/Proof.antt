@@ -15,11 +15,11 @@ use Rattle.tables.proofs.admit_lent.Tie as tie
 
 -- what is lent
 abbrev lent : tie.Start → Lent
-lent c = let a = c .args in lentBy (a .parents) (a .label) (a .tour) (a .lift)
+lent c = let a = c .args in lentBy (a .parents) (a .label) (a .tour) (a .lift) (a .order)
 
 -- where the call began
 abbrev start : tie.After-lower → tie.Start
-start c = c .before .before .before .before .before .before .before
+start c = c .before .before .before .before .before .before .before .before
 
 -- the lowest buffer that does not fit
 abbrev unfit : tie.Start → ℕ
@@ -76,7 +76,7 @@ returns-2 c =
     let d = c12 .before .before in
     let m = c6 .tables in
     let a = c12 .admit in
-    let same = m .kept .1 .1 .1 .1 .0 ∙ a .kept .1 .1 .0 in
+    let same = m .kept .1 .1 .1 .1 .1 .0 ∙ a .kept .1 .1 .0 in
     stage-on (found-tested (start d .args .parents .now) (unfit (start d)) _ (found d) (a .ensures)) _ (c8 .enum-told .given .1) (m .ensures)
     (stale-later (lent (start d))) (c .before .before .clear .ensures ∙ ap (λ k. replicate k 0) same)
 

@@ -11,7 +11,14 @@ use Rattle.tables.proofs.build.Tie as tie
 
 -- what is lent
 abbrev lent : tie.Start → Lent
-lent c = let a = c .args in lentBy (a .parents) (a .label) (a .tour) (a .lift)
+lent c = let a = c .args in lentBy (a .parents) (a .label) (a .tour) (a .lift) (a .order)
+
+-- where the call began, and the way back from the sheet's tests to the test of the lengths
+abbrev start : tie.After-first-unfit → tie.Start
+start c = c .before .before .before .before .before .before .before
+
+abbrev from-admit : tie.After-admit → tie.After-first-unfit
+from-admit c = c .before .before
 
 -- the lowest buffer that does not fit
 abbrev unfit : tie.Start → ℕ
@@ -25,8 +32,8 @@ first-unfit-requires c κs = search needs
 
 admit-requires : tie.Need-admit-requires
 admit-requires c κs =
-    let c7 = c .before .before .before .before .before .before .before in
-    found-work (lent (c7)) (c7 .args .work .now) 0 _ (c .before .first-unfit .ensures)
+    let s = start (c .before) in
+    found-work (lent s) (s .args .work .now) 0 _ (c .before .first-unfit .ensures)
 
 enum-told : tie.Need-enum-told
 enum-told c = search needs
@@ -39,17 +46,16 @@ same-length c = search needs
 
 returns : tie.Need-returns
 returns c =
-    let c4 = c .before .before .before .before in
-    let c6 = c4 .before .before in
-    let s = c6 .before .before .before .before .before .before in
-    build-refused (lent s) _ (found-tested (s .args .parents .now) (unfit s) _ (c6 .first-unfit .ensures) (c4 .admit .ensures)) (c .enum-told2 .given .1)
+    let a = c .before .before .before .before in
+    let f = from-admit a in
+    let s = start f in
+    build-refused (lent s) _ (found-tested (s .args .parents .now) (unfit s) _ (f .first-unfit .ensures) (a .admit .ensures)) (c .enum-told2 .given .1)
 
 tables-requires : tie.Need-tables-requires
 tables-requires c κs =
-    let c4 = c .before .before .before .before in
-    let c8 = c4 .before .before .before .before in
-    let c10 = c8 .before .before in
-    tested-fits _ _ _ 0 _ (c10 .first-unfit .ensures) (c8 .admit .ensures) (c4 .enum-told .given .1) (c8 .admit .kept .1 .1 .0)
+    let told = c .before .before .before .before .before in
+    let a = told .before .before .before .before in
+    tested-fits _ _ _ 0 _ (from-admit a .first-unfit .ensures) (a .admit .ensures) (told .enum-told .given .1) (a .admit .kept .1 .1 .0)
 
 same-length-2 : tie.Need-same-length-2
 same-length-2 c = search needs
@@ -63,18 +69,20 @@ same-length-4 c = search needs
 same-length-5 : tie.Need-same-length-5
 same-length-5 c = search needs
 
+same-length-6 : tie.Need-same-length-6
+same-length-6 c = search needs
+
 returns-2 : tie.Need-returns-2
 returns-2 c =
-    let c8 = c .before .before .before .before .before .before .before .before in
-    let c13 = c8 .before .before .before .before .before in
-    let c17 = c13 .before .before .before .before in
-    let c19 = c17 .before .before in
-    let s = c19 .before .before .before .before .before .before in
-    let a = c17 .admit in
-    let yes = c13 .enum-told .given .1 in
-    let fits = tested-fits (lent s) (s .args .work .now) (s .args .work .now) 0 _ (c19 .first-unfit .ensures) (a .ensures) yes refl in
-    build-accepted (lent s) _ (found-tested (s .args .parents .now) (unfit s) _ (c19 .first-unfit .ensures) (a .ensures)) yes (fits .ready .room)
-    (c8 .tables .ensures)
+    let filled = c .before .before .before .before .before .before .before .before .before .before in
+    let told = filled .before .before .before .before .before .before in
+    let a = told .before .before .before .before in
+    let f = from-admit a in
+    let s = start f in
+    let yes = told .enum-told .given .1 in
+    let fits = tested-fits (lent s) (s .args .work .now) (s .args .work .now) 0 _ (f .first-unfit .ensures) (a .admit .ensures) yes refl in
+    build-accepted (lent s) _ (found-tested (s .args .parents .now) (unfit s) _ (f .first-unfit .ensures) (a .admit .ensures)) yes (fits .ready .room)
+    (filled .tables .ensures)
 
 pub build-spec : {M : Type 1} → statement M
 build-spec =
@@ -92,4 +100,5 @@ build-spec =
     same-length-3
     same-length-4
     same-length-5
+    same-length-6
     returns-2)

@@ -88,15 +88,15 @@ returns-5 c =
     (unfit-later _ _ (eq-eqb _ _ (c4 .if3 .left)) ∙ unfit-later _ _ (eq-eqb _ _ (rw (c3 .log2 .ensures .is) at (c .before .before .if4 .left)))
     ∙ unfit-here _ _ (ne-eqb _ _ (rw (c .before .log22 .ensures .is) at (c .if5 .taken))))
 
-work-unfit-requires : tie.Need-work-unfit-requires
-work-unfit-requires c κs = search needs
+later-unfit-requires : tie.Need-later-unfit-requires
+later-unfit-requires c κs = search needs
 
 returns-6 : tie.Need-returns-6
 returns-6 c =
     let c3 = c .before .before .before in
     let c4 = c3 .before in
     λ h b.
-    c .work-unfit .ensures
+    c .later-unfit .ensures
     ∙ sym
     (unfit-later _ _ (eq-eqb _ _ (c4 .before .if3 .left)) ∙ unfit-later _ _ (eq-eqb _ _ (rw (c4 .log2 .ensures .is) at (c3 .if4 .left)))
     ∙ unfit-later _ _ (eq-eqb _ _ (rw (c .before .before .log22 .ensures .is) at (c .before .if5 .left))))
@@ -124,5 +124,5 @@ first-unfit-spec =
     add-if5
     mul-if5
     returns-5
-    work-unfit-requires
+    later-unfit-requires
     returns-6)
