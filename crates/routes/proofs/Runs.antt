@@ -18,26 +18,26 @@ use Rattle.routes.proofs.list.Reads as by-list
 use Rattle.routes.proofs.trail.Kinds as trail
 use Rattle.routes.proofs.trail.Reads as by-trail
 
--- ---- the calls that are lent a sheet, three tables, work, a question and an answer: pairs by each route, and a list
+-- ---- the calls that are lent a sheet, four tables, work, a question and an answer: pairs by each route, and a list
 
 -- a run of the call that promises this
-pub record Run (promises : Out 7 list.ps list.r) : Type 0 where
-  pub lifetimes : Lfts 7
+pub record Run (promises : Out 8 list.ps list.r) : Type 0 where
+  pub lifetimes : Lfts 8
   pub passed : Dens lifetimes list.ps
   pub result : Outcome
-  pub left : AtExit (endedOf 7 list.ps list.r) lifetimes
+  pub left : AtExit (endedOf 8 list.ps list.r) lifetimes
   pub kept : promises lifetimes passed result left
 
-module _ {promises : Out 7 list.ps list.r} (run : Run promises) where
+module _ {promises : Out 8 list.ps list.r} (run : Run promises) where
   -- what it was lent
   abbrev pub asked : Asked
   asked =
       let a = run .passed in
-      askedBy (a .0) (a .1 .0) (a .1 .1 .0) (a .1 .1 .1 .0) (a .1 .1 .1 .1 .0) (a .1 .1 .1 .1 .1 .0) (a .1 .1 .1 .1 .1 .1 .0)
+      askedBy (a .0) (a .1 .0) (a .1 .1 .0) (a .1 .1 .1 .0) (a .1 .1 .1 .1 .0) (a .1 .1 .1 .1 .1 .0) (a .1 .1 .1 .1 .1 .1 .0) (a .1 .1 .1 .1 .1 .1 .1 .0)
 
   -- the answer's cells afterwards
   abbrev pub answers : List ℕ
-  answers = now (run .left .1 .1 .1 .1 .1 .1 .0)
+  answers = now (run .left .1 .1 .1 .1 .1 .1 .1 .0)
 
 -- runs of `pairs_by_labels`, `pairs_by_tour`, `pairs_by_lifts` and `list`
 abbrev pub LabelsRun : Type 0
@@ -56,10 +56,10 @@ ListRun = Run by-list.Learnt
 
 -- a run of `trail`
 pub record TrailRun : Type 0 where
-  pub lifetimes : Lfts 8
+  pub lifetimes : Lfts 9
   pub passed : Dens lifetimes trail.ps
   pub result : Traced
-  pub left : AtExit (endedOf 8 trail.ps trail.r) lifetimes
+  pub left : AtExit (endedOf 9 trail.ps trail.r) lifetimes
   pub kept : by-trail.Learnt lifetimes passed result left
 
 module _ (run : TrailRun) where
@@ -67,15 +67,15 @@ module _ (run : TrailRun) where
   abbrev pub traced : Asked
   traced =
       let a = run .passed in
-      askedBy (a .0) (a .1 .0) (a .1 .1 .0) (a .1 .1 .1 .0) (a .1 .1 .1 .1 .0) (a .1 .1 .1 .1 .1 .0) (a .1 .1 .1 .1 .1 .1 .0)
+      askedBy (a .0) (a .1 .0) (a .1 .1 .0) (a .1 .1 .1 .0) (a .1 .1 .1 .1 .0) (a .1 .1 .1 .1 .1 .0) (a .1 .1 .1 .1 .1 .1 .0) (a .1 .1 .1 .1 .1 .1 .1 .0)
 
   -- the trail's cells before and afterwards
   abbrev pub rowsBefore : List ℕ
-  rowsBefore = now (run .passed .1 .1 .1 .1 .1 .1 .1 .0)
+  rowsBefore = now (run .passed .1 .1 .1 .1 .1 .1 .1 .1 .0)
 
   abbrev pub rowsAfter : List ℕ
-  rowsAfter = now (run .left .1 .1 .1 .1 .1 .1 .1 .0)
+  rowsAfter = now (run .left .1 .1 .1 .1 .1 .1 .1 .1 .0)
 
   -- the answer's cell afterwards
   abbrev pub carrierCell : List ℕ
-  carrierCell = now (run .left .1 .1 .1 .1 .1 .1 .0)
+  carrierCell = now (run .left .1 .1 .1 .1 .1 .1 .1 .0)

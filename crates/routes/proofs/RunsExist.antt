@@ -22,6 +22,7 @@ use Rattle.tree.specs.Sharing.{SameParts, SharedOut, members}
 use Rattle.tree.specs.Labels.{labelTable}
 use Rattle.tree.specs.Tour.{tourTable}
 use Rattle.tree.specs.Lifts.{liftTable}
+use Rattle.tree.specs.Preorder.{preorder}
 use Rattle.tree.specs.Tables.{own}
 use Rattle.tree.specs.Routes.{byLabels, byTour}
 use Rattle.tree.specs.Pairs.{eachPair}
@@ -56,8 +57,8 @@ zeros-length : (k : ℕ) → length (zeros k) ≡ k
 zeros-length k = length-replicate {A = ℕ} k 0
 
 -- lifetimes of the references; a contract says nothing of them
-abbrev lifetimes : Lfts 7
-lifetimes = ([], ([], ([], ([], ([], ([], ([], tt)))))))
+abbrev lifetimes : Lfts 8
+lifetimes = ([], ([], ([], ([], ([], ([], ([], ([], tt))))))))
 
 module _ (s : List ℕ) where
   -- work that fits
@@ -78,18 +79,21 @@ module _ (s : List ℕ) where
   }
 
   -- references to the sheet, its tables, clear work and a question, with those after them: what a call is passed, and what it leaves
-  abbrev refs : {A : Type 0} → List ℕ → A → RefT (List ℕ) × (RefT (List ℕ) × (RefT (List ℕ) × (RefT (List ℕ) × (RefT (List ℕ) × (RefT (List ℕ) × A)))))
-  refs question more = (ref s, (ref (labelTable s), (ref (tourTable s), (ref (liftTable s), (ref clear, (ref question, more))))))
+  abbrev Refs : Type 0 → Type 0
+  Refs A = RefT (List ℕ) × (RefT (List ℕ) × (RefT (List ℕ) × (RefT (List ℕ) × (RefT (List ℕ) × (RefT (List ℕ) × (RefT (List ℕ) × A))))))
+
+  abbrev refs : {A : Type 0} → List ℕ → A → Refs A
+  refs question more = (ref s, (ref (labelTable s), (ref (tourTable s), (ref (liftTable s), (ref (preorder s), (ref clear, (ref question, more)))))))
 
   -- of pairs and of a list
   abbrev passed : List ℕ → ℕ → Dens lifetimes list.ps
   passed question cells = refs question (ref (zeros cells), tt)
 
-  abbrev left : List ℕ → List ℕ → AtExit (endedOf 7 list.ps list.r) lifetimes
+  abbrev left : List ℕ → List ℕ → AtExit (endedOf 8 list.ps list.r) lifetimes
   left question answers = refs question (ref answers, tt)
 
   -- a run of such a call that is accepted, where what it promises holds
-  abbrev run-of : {promises : Out 7 list.ps list.r} (question : List ℕ) (cells : ℕ) (answers : List ℕ)
+  abbrev run-of : {promises : Out 8 list.ps list.r} (question : List ℕ) (cells : ℕ) (answers : List ℕ)
       → promises lifetimes (passed question cells) Accepted (left question answers) → Run promises
   run-of question cells answers kept = record {
     lifetimes = lifetimes;

@@ -29,9 +29,9 @@ pub record Asked : Type 0 where
   pub answer : List ℕ
 
 -- the same, from its references
-abbrev pub askedBy : (parents label tour lift work question answer : RefT (List ℕ)) → Asked
-askedBy parents label tour lift work question answer =
-    record { lent = lentBy parents label tour lift; work = now work; question = now question; answer = now answer }
+abbrev pub askedBy : (parents label tour lift order work question answer : RefT (List ℕ)) → Asked
+askedBy parents label tour lift order work question answer =
+    record { lent = lentBy parents label tour lift order; work = now work; question = now question; answer = now answer }
 
 -- ---- pairs
 

@@ -23,14 +23,15 @@ pub(crate) fn admit(
     label: &[u16],
     tour: &[u16],
     lift: &[u16],
+    order: &[u16],
     work: &mut [u16],
     question: &[u16],
     unfit: usize,
 ) -> Outcome
-    ensures { λ r. ⌜ Admitted (lentBy (parents .entry) (label .entry) (tour .entry) (lift .entry))
+    ensures { λ r. ⌜ Admitted (lentBy (parents .entry) (label .entry) (tour .entry) (lift .entry) (order .entry))
         (now (work .entry)) (now (question .entry)) unfit r (now (work .exit)) ⌝ }
 {
-    let r = tables::admit_lent(parents, label, tour, lift, unfit, work);
+    let r = tables::admit_lent(parents, label, tour, lift, order, unfit, work);
     let Outcome::Accepted = r else {
         return r;
     };

@@ -25,11 +25,13 @@ pub fn pairs_by_labels(
     label: &[u16],
     tour: &[u16],
     lift: &[u16],
+    order: &[u16],
     work: &mut [u16],
     question: &[u16],
     answer: &mut [u16],
 ) -> Outcome
-    ensures { λ r. ⌜ PairsGive byLabels (askedBy (parents .entry) (label .entry) (tour .entry) (lift .entry) (work .entry) (question .entry) (answer .entry))
+    ensures { λ r. ⌜ PairsGive byLabels
+        (askedBy (parents .entry) (label .entry) (tour .entry) (lift .entry) (order .entry) (work .entry) (question .entry) (answer .entry))
         r (now (work .exit)) (now (answer .exit)) ⌝ }
 {
     pairs(
@@ -38,6 +40,7 @@ pub fn pairs_by_labels(
         label,
         tour,
         lift,
+        order,
         work,
         question,
         answer,
@@ -50,11 +53,13 @@ pub fn pairs_by_tour(
     label: &[u16],
     tour: &[u16],
     lift: &[u16],
+    order: &[u16],
     work: &mut [u16],
     question: &[u16],
     answer: &mut [u16],
 ) -> Outcome
-    ensures { λ r. ⌜ PairsGive byTour (askedBy (parents .entry) (label .entry) (tour .entry) (lift .entry) (work .entry) (question .entry) (answer .entry))
+    ensures { λ r. ⌜ PairsGive byTour
+        (askedBy (parents .entry) (label .entry) (tour .entry) (lift .entry) (order .entry) (work .entry) (question .entry) (answer .entry))
         r (now (work .exit)) (now (answer .exit)) ⌝ }
 {
     pairs(
@@ -63,6 +68,7 @@ pub fn pairs_by_tour(
         label,
         tour,
         lift,
+        order,
         work,
         question,
         answer,
@@ -75,11 +81,13 @@ pub fn pairs_by_lifts(
     label: &[u16],
     tour: &[u16],
     lift: &[u16],
+    order: &[u16],
     work: &mut [u16],
     question: &[u16],
     answer: &mut [u16],
 ) -> Outcome
-    ensures { λ r. ⌜ PairsGive byLifts (askedBy (parents .entry) (label .entry) (tour .entry) (lift .entry) (work .entry) (question .entry) (answer .entry))
+    ensures { λ r. ⌜ PairsGive byLifts
+        (askedBy (parents .entry) (label .entry) (tour .entry) (lift .entry) (order .entry) (work .entry) (question .entry) (answer .entry))
         r (now (work .exit)) (now (answer .exit)) ⌝ }
 {
     pairs(
@@ -88,6 +96,7 @@ pub fn pairs_by_lifts(
         label,
         tour,
         lift,
+        order,
         work,
         question,
         answer,
@@ -101,15 +110,17 @@ pub fn pairs(
     label: &[u16],
     tour: &[u16],
     lift: &[u16],
+    order: &[u16],
     work: &mut [u16],
     question: &[u16],
     answer: &mut [u16],
 ) -> Outcome
-    ensures { λ r. ⌜ PairsGive (ruleOf route) (askedBy (parents .entry) (label .entry) (tour .entry) (lift .entry) (work .entry) (question .entry) (answer .entry))
+    ensures { λ r. ⌜ PairsGive (ruleOf route)
+        (askedBy (parents .entry) (label .entry) (tour .entry) (lift .entry) (order .entry) (work .entry) (question .entry) (answer .entry))
         r (now (work .exit)) (now (answer .exit)) ⌝ }
 {
     let unfit = ask::pairs_unfit(question.len(), answer.len());
-    let r = ask::admit(parents, label, tour, lift, work, question, unfit);
+    let r = ask::admit(parents, label, tour, lift, order, work, question, unfit);
     let Outcome::Accepted = r else {
         return r;
     };
@@ -124,16 +135,18 @@ pub fn trail(
     label: &[u16],
     tour: &[u16],
     lift: &[u16],
+    order: &[u16],
     work: &mut [u16],
     question: &[u16],
     answer: &mut [u16],
     rows: &mut [u16],
 ) -> Traced
-    ensures { λ r. ⌜ TrailGives (askedBy (parents .entry) (label .entry) (tour .entry) (lift .entry) (work .entry) (question .entry) (answer .entry))
+    ensures { λ r. ⌜ TrailGives
+        (askedBy (parents .entry) (label .entry) (tour .entry) (lift .entry) (order .entry) (work .entry) (question .entry) (answer .entry))
         (now (rows .entry)) r (now (work .exit)) (now (answer .exit)) (now (rows .exit)) ⌝ }
 {
     let unfit = ask::trail_unfit(question.len(), answer.len(), rows.len());
-    let r = ask::admit(parents, label, tour, lift, work, question, unfit);
+    let r = ask::admit(parents, label, tour, lift, order, work, question, unfit);
     match r {
         Outcome::Accepted => {
             Traced::Lifts(answer::trail(parents, label, lift, question, answer, rows))
@@ -148,15 +161,17 @@ pub fn list(
     label: &[u16],
     tour: &[u16],
     lift: &[u16],
+    order: &[u16],
     work: &mut [u16],
     question: &[u16],
     answer: &mut [u16],
 ) -> Outcome
-    ensures { λ r. ⌜ ListGives (askedBy (parents .entry) (label .entry) (tour .entry) (lift .entry) (work .entry) (question .entry) (answer .entry))
+    ensures { λ r. ⌜ ListGives
+        (askedBy (parents .entry) (label .entry) (tour .entry) (lift .entry) (order .entry) (work .entry) (question .entry) (answer .entry))
         r (now (work .exit)) (now (answer .exit)) ⌝ }
 {
     let unfit = ask::list_unfit(answer.len());
-    let r = ask::admit(parents, label, tour, lift, work, question, unfit);
+    let r = ask::admit(parents, label, tour, lift, order, work, question, unfit);
     let Outcome::Accepted = r else {
         return r;
     };

@@ -11,7 +11,11 @@ use Rattle.routes.proofs.list.Tie as tie
 
 -- what is lent
 abbrev asked : tie.Start → Asked
-asked c = let a = c .args in askedBy (a .parents) (a .label) (a .tour) (a .lift) (a .work) (a .question) (a .answer)
+asked c = let a = c .args in askedBy (a .parents) (a .label) (a .tour) (a .lift) (a .order) (a .work) (a .question) (a .answer)
+
+-- where the call began
+abbrev start : tie.After-list-unfit → tie.Start
+start c = c .before .before .before .before .before .before .before .before .before
 
 list-unfit-requires : tie.Need-list-unfit-requires
 list-unfit-requires c κs = search needs
@@ -32,14 +36,14 @@ returns : tie.Need-returns
 returns c =
     let c4 = c .before .before .before .before in
     let c6 = c4 .before .before in
-    let s = c6 .before .before .before .before .before .before .before .before in
+    let s = start c6 in
     list-refused (asked s) (admitted-as (asked s) (c6 .list-unfit .ensures) (c4 .admit .ensures)) (c .enum-told2 .given .1)
 
 list-requires : tie.Need-list-requires
 list-requires c κs =
     let c5 = c .before .before .before .before .before in
     let c7 = c5 .before .before in
-    let s = c7 .before .before .before .before .before .before .before .before in
+    let s = start c7 in
     let ready = admitted-answerable (asked s) _ (c5 .admit .ensures) (c .before .enum-told .given .1) in
     (ready .listed, list-fit _ (sym (c7 .list-unfit .ensures) ∙ ready .owned .fits), ready .owned .label, ready .owned .tour)
 
@@ -53,7 +57,7 @@ returns-2 : tie.Need-returns-2
 returns-2 c =
     let c8 = c .before .before .before .before .before .before .before .before in
     let c10 = c8 .before .before in
-    let s = c10 .before .before .before .before .before .before .before .before in
+    let s = start c10 in
     list-answered (asked s) (admitted-as (asked s) (c10 .list-unfit .ensures) (c8 .admit .ensures)) (c .before .before .before .before .enum-told .given .1)
     (c .before .before .list .ensures)
 

@@ -13,7 +13,11 @@ use lib.ListN.{length}
 
 -- what is lent
 abbrev asked : tie.Start → Asked
-asked c = let a = c .args in askedBy (a .parents) (a .label) (a .tour) (a .lift) (a .work) (a .question) (a .answer)
+asked c = let a = c .args in askedBy (a .parents) (a .label) (a .tour) (a .lift) (a .order) (a .work) (a .question) (a .answer)
+
+-- where the call began
+abbrev start : tie.After-pairs-unfit → tie.Start
+start c = c .before .before .before .before .before .before .before .before .before
 
 pairs-unfit-requires : tie.Need-pairs-unfit-requires
 pairs-unfit-requires c κs = search needs
@@ -34,14 +38,14 @@ returns : tie.Need-returns
 returns c =
     let c4 = c .before .before .before .before in
     let c6 = c4 .before .before in
-    let s = c6 .before .before .before .before .before .before .before .before in
+    let s = start c6 in
     pairs-refused (s .args .route) (asked s) (admitted-as (asked s) (c6 .pairs-unfit .ensures) (c4 .admit .ensures)) (c .enum-told2 .given .1)
 
 pairs-requires : tie.Need-pairs-requires
 pairs-requires c κs =
     let c5 = c .before .before .before .before .before in
     let c7 = c5 .before .before in
-    let s = c7 .before .before .before .before .before .before .before .before in
+    let s = start c7 in
     let ready = admitted-answerable (asked s) _ (c5 .admit .ensures) (c .before .enum-told .given .1) in
     let (even, cells) = pairs-fit (length (s .args .question .now)) (length (s .args .answer .now)) (sym (c7 .pairs-unfit .ensures) ∙ ready .owned .fits) in
     (ready .listed, omega arith, ready .owned .label, ready .owned .tour, ready .owned .lift)
@@ -56,7 +60,7 @@ returns-2 : tie.Need-returns-2
 returns-2 c =
     let c8 = c .before .before .before .before .before .before .before .before in
     let c10 = c8 .before .before in
-    let s = c10 .before .before .before .before .before .before .before .before in
+    let s = start c10 in
     pairs-answered (s .args .route) (asked s) (admitted-as (asked s) (c10 .pairs-unfit .ensures) (c8 .admit .ensures))
     (c .before .before .before .before .enum-told .given .1) (c .before .before .pairs .ensures)
 

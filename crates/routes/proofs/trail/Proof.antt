@@ -14,7 +14,11 @@ use lib.ListN.{length}
 
 -- what is lent
 abbrev asked : tie.Start → Asked
-asked c = let a = c .args in askedBy (a .parents) (a .label) (a .tour) (a .lift) (a .work) (a .question) (a .answer)
+asked c = let a = c .args in askedBy (a .parents) (a .label) (a .tour) (a .lift) (a .order) (a .work) (a .question) (a .answer)
+
+-- where the call began
+abbrev start : tie.After-trail-unfit → tie.Start
+start c = c .before .before .before .before .before .before .before .before .before .before
 
 trail-unfit-requires : tie.Need-trail-unfit-requires
 trail-unfit-requires c κs = search needs
@@ -29,7 +33,7 @@ trail-requires : tie.Need-trail-requires
 trail-requires c κs =
     let c6 = c .before .before .before .before .before .before in
     let c8 = c6 .before .before in
-    let s = c8 .before .before .before .before .before .before .before .before .before in
+    let s = start c8 in
     let ready = admitted-answerable (asked s) _ (c6 .admit .ensures) (c .before .before .enum-told .given .1) in
     let (two, one, whole) = trail-fit (length (asked s .question)) (length (asked s .answer)) (length (s .args .rows .now)) (sym (c8 .trail-unfit .ensures) ∙ ready .owned .fits) in
     (question-pair (ready .listed) 0 (omega arith), two, one, whole, ready .owned .label, ready .owned .lift)
@@ -52,7 +56,7 @@ returns c =
     let c7 = c4 .before .before .before in
     let c11 = c7 .before .before .before .before in
     let c13 = c11 .before .before in
-    let s = c13 .before .before .before .before .before .before .before .before .before in
+    let s = start c13 in
     let ready = admitted-answerable (asked s) _ (c11 .admit .ensures) (c7 .enum-told .given .1) in
     let (two, _, _) = trail-fit (length (asked s .question)) (length (asked s .answer)) (length (s .args .rows .now)) (sym (c13 .trail-unfit .ensures) ∙ ready .owned .fits) in
     let done = c4 .trail .ensures in
@@ -66,7 +70,7 @@ returns-2 : tie.Need-returns-2
 returns-2 c =
     let c5 = c .before .before .before .before .before in
     let c7 = c5 .before .before in
-    let s = c7 .before .before .before .before .before .before .before .before .before in
+    let s = start c7 in
     trail-refused (asked s) (s .args .rows .now) (admitted-as (asked s) (c7 .trail-unfit .ensures) (c5 .admit .ensures)) (c .before .r .given .1)
 
 pub trail-spec : {M : Type 1} → statement M

@@ -8,7 +8,11 @@ use Rattle.routes.proofs.ask.admit.Tie as tie
 
 -- what is lent
 abbrev lent : tie.Start → Lent
-lent c = let a = c .args in lentBy (a .parents) (a .label) (a .tour) (a .lift)
+lent c = let a = c .args in lentBy (a .parents) (a .label) (a .tour) (a .lift) (a .order)
+
+-- where the call began
+abbrev start : tie.After-admit-lent → tie.Start
+start c = c .before .before .before .before .before .before .before .before .before
 
 admit-lent-requires : tie.Need-admit-lent-requires
 admit-lent-requires c κs = search needs
@@ -25,13 +29,13 @@ same-length c = search needs
 returns : tie.Need-returns
 returns c =
     let c4 = c .before .before .before .before in
-    let s = c4 .before .before .before .before .before .before .before .before in
+    let s = start c4 in
     admit-refused (lent s) (s .args .work .now) (s .args .question .now) (s .args .unfit) (c4 .admit-lent .ensures) (c .enum-told2 .given .1)
 
 test-question-requires : tie.Need-test-question-requires
 test-question-requires c κs =
     let c4 = c .before .before .before .before in
-    let s = c4 .before .before .before .before .before .before .before .before in
+    let s = start c4 in
     admit-owned (lent s) (s .args .work .now) (s .args .question .now) (s .args .unfit) (c4 .admit-lent .ensures) (c .enum-told .given .1) .small
 
 same-length-2 : tie.Need-same-length-2
@@ -40,7 +44,7 @@ same-length-2 c = search needs
 returns-2 : tie.Need-returns-2
 returns-2 c =
     let c5 = c .before .before .before .before .before in
-    let s = c5 .before .before .before .before .before .before .before .before in
+    let s = start c5 in
     admit-asked (lent s) (s .args .work .now) (s .args .question .now) (s .args .unfit) (c5 .admit-lent .ensures) (c .before .enum-told .given .1)
     (c .test-question .ensures)
 
