@@ -13,7 +13,7 @@ import sys
 
 LAYERS = [
     ["bits", "tree", "cells", "preorder", "labels", "rows", "rooted", "tables"],
-    ["rules", "lifting", "routes"],
+    ["rules", "lifting", "routes", "subtrees"],
     ["text", "lines", "console", "report", "lca"],
 ]
 COMMON = {"bits", "tree"}
