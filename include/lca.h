@@ -6,6 +6,7 @@
  *   root     the part that names itself: its entry is its own number
  *   level    the steps from a part up to the root; a step goes from a part to its entry
  *   carries  a part carries itself and all that is bolted into what it carries: it is an ancestor of each
+ *   subtree  of a part, the parts that it carries
  *   carrier  of two parts, or of a list, their lowest common ancestor: their common carrier that all their other common carriers carry
  *   route    a way to find the carrier of a pair. There are three, and they give the same answers:
  *              by labels  B. Schieber and U. Vishkin, "On finding lowest common ancestors: simplification and parallelization",
@@ -15,6 +16,8 @@
  *                         raised by falling powers of two while they stay different, and then both by one
  *   lift     one such raise, of one part or of both
  *   trail    the lifts of a pair in order: after each, where the two parts are
+ *   preorder an order of the parts: the root first; a part before all else that it carries; of two parts with the same entry, the lower
+ *            number with all it carries before the other with all it carries
  *
  * Link with target/staticlib/liblca.a, which `rt staticlib lca` makes.
  *
@@ -29,6 +32,7 @@
  *   tour      lca_tour_cells(n)          the 2n - 1 visits, each part's first position, and row k: from each position on, the first of
  *                                        least level among 2^k
  *   lift      lca_lift_cells(n)          row k: each part's carrier 2^k steps up, or the root if that is nearer
+ *   order     lca_order_cells(n)         the parts in preorder
  *   work      lca_work_cells(n)          the call's own room: what it holds before makes no difference
  *   question  2 for each pair            the pairs, one after another: x, y, x, y, ..
  *             2 for a trail              x, y
@@ -40,8 +44,8 @@
  * Any other length is refused, and so is any content that a call cannot answer. The caller owes only this:
  *
  *   - No pointer is null, even for length 0. Each is aligned for its type, and points to as many cells as its length says.
- *   - A buffer that a call writes overlaps no other buffer, and `value` overlaps none. Buffers that are const in a call may overlap one
- *     another.
+ *   - A buffer that a call writes overlaps no other buffer; `value` and `start` overlap none, nor each other. Buffers that are const in a
+ *     call may overlap one another.
  *
  * Calls keep nothing between them and may run at the same time, on buffers of their own. Const buffers may be shared.
  *
@@ -49,7 +53,7 @@
  * Results
  *
  * A call returns LCA_ACCEPTED, or the number of its refusal, by the card below. It always sets *value: to the refusal's place, to an
- * accepted trail's count of lifts, or to 0.
+ * accepted trail's count of lifts, to an accepted subtree's count of parts, or to 0.
  *
  * An accepted call fills every cell of what it was lent to fill. A refused one changes no table, answer or trail. `work` is all zero
  * afterwards, but unchanged after refusals 1 to 3.
@@ -69,7 +73,7 @@ extern "C" {
  * The version of the C interface that this header declares. Every change of a call, of a length or of a number's meaning raises it.
  * lca_version() gives that of the archive which is linked. A program may compare both before its first call.
  */
-#define LCA_VERSION 1
+#define LCA_VERSION 2
 
 uint32_t lca_version(void);
 
@@ -82,14 +86,16 @@ enum lca_number {
     LCA_BARE = 1,           /* the sheet has no part; 0 */
     LCA_OVERSIZE = 2,       /* the sheet has more than LCA_MOST_PARTS parts; 0 */
     LCA_MISFIT = 3,         /* a buffer hasn't its exact length; the lowest such buffer of 1 label, 2 tour, 3 lift, 4 work, 5 question,
-                               6 answer, 7 trail */
+                               6 answer, 7 trail, 8 order */
     LCA_OFF_SHEET = 4,      /* an entry is n or more; the lowest part with such an entry */
     LCA_ROOTLESS = 5,       /* no part names itself; 0 */
     LCA_SECOND_ROOT = 6,    /* two or more parts name themselves; the second lowest of them */
     LCA_LOOP = 7,           /* a part's climb never meets the root; the lowest such part */
-    LCA_STALE = 8,          /* a table's cell isn't this sheet's; the first such cell from 0, label, tour and lift end to end */
+    LCA_STALE = 8,          /* a table's cell isn't this sheet's; the first such cell from 0, label, tour, lift and order end to
+                               end */
     LCA_NOTHING_LISTED = 9, /* the question is empty; 0 */
-    LCA_NO_SUCH_PART = 10,  /* a number in the question is n or more; the first such position in the question, from 0 */
+    LCA_NO_SUCH_PART = 10,  /* a number in the question is n or more; the first such position in the question, from 0. Or the part of
+                               lca_subtree is; 0 */
     LCA_ADRIFT = 11,        /* the parts asked for have no common carrier; 0. No sheet that passes the tests before has such parts */
     LCA_ILLEGIBLE = 12      /* the program `report` alone gives this one: a line breaks its forms; the line's number from 1 */
 };
@@ -138,6 +144,12 @@ static inline size_t lca_lift_cells(size_t n)
     return lca_has_tables(n) ? n * (lca_log(n) + 1) : 0;
 }
 
+/* n */
+static inline size_t lca_order_cells(size_t n)
+{
+    return lca_has_tables(n) ? n : 0;
+}
+
 /* 4n */
 static inline size_t lca_work_cells(size_t n)
 {
@@ -171,12 +183,13 @@ uint32_t lca_check(
     uint16_t *work, size_t work_len,
     uint64_t *value);
 
-/* Fills the three tables with the sheet's own cells. Tests 1 to 7. Writes: label, tour, lift, work. */
+/* Fills the four tables with the sheet's own cells. Tests 1 to 7. Writes: label, tour, lift, order, work. */
 uint32_t lca_build(
     const uint16_t *parents, size_t parents_len,
     uint16_t *label, size_t label_len,
     uint16_t *tour, size_t tour_len,
     uint16_t *lift, size_t lift_len,
+    uint16_t *order, size_t order_len,
     uint16_t *work, size_t work_len,
     uint64_t *value);
 
@@ -186,6 +199,7 @@ uint32_t lca_compare(
     const uint16_t *label, size_t label_len,
     const uint16_t *tour, size_t tour_len,
     const uint16_t *lift, size_t lift_len,
+    const uint16_t *order, size_t order_len,
     uint16_t *work, size_t work_len,
     uint64_t *value);
 
@@ -198,8 +212,8 @@ uint32_t lca_compare(
  *
  *                           a call with one pair,   each further pair of the same call,
  *   parts    table cells    by any route            by labels   by tour   by lifts
- *       64         1,912      1 microsecond         8 ns        3 ns       8 ns
- *   16,384       884,720    265 microseconds        8 ns        4 ns      13 ns
+ *       64         1,976      1 microsecond         9 ns        3 ns       9 ns
+ *   16,384       901,104    340 microseconds        9 ns        5 ns      14 ns
  */
 
 /* The carrier of each pair, by labels. A further pair takes constant time. */
@@ -208,6 +222,7 @@ uint32_t lca_pairs_by_labels(
     const uint16_t *label, size_t label_len,
     const uint16_t *tour, size_t tour_len,
     const uint16_t *lift, size_t lift_len,
+    const uint16_t *order, size_t order_len,
     uint16_t *work, size_t work_len,
     const uint16_t *question, size_t question_len,
     uint16_t *answer, size_t answer_len,
@@ -219,6 +234,7 @@ uint32_t lca_pairs_by_tour(
     const uint16_t *label, size_t label_len,
     const uint16_t *tour, size_t tour_len,
     const uint16_t *lift, size_t lift_len,
+    const uint16_t *order, size_t order_len,
     uint16_t *work, size_t work_len,
     const uint16_t *question, size_t question_len,
     uint16_t *answer, size_t answer_len,
@@ -230,6 +246,7 @@ uint32_t lca_pairs_by_lifts(
     const uint16_t *label, size_t label_len,
     const uint16_t *tour, size_t tour_len,
     const uint16_t *lift, size_t lift_len,
+    const uint16_t *order, size_t order_len,
     uint16_t *work, size_t work_len,
     const uint16_t *question, size_t question_len,
     uint16_t *answer, size_t answer_len,
@@ -241,6 +258,7 @@ uint32_t lca_list(
     const uint16_t *label, size_t label_len,
     const uint16_t *tour, size_t tour_len,
     const uint16_t *lift, size_t lift_len,
+    const uint16_t *order, size_t order_len,
     uint16_t *work, size_t work_len,
     const uint16_t *question, size_t question_len,
     uint16_t *answer, size_t answer_len,
@@ -252,10 +270,30 @@ uint32_t lca_trail(
     const uint16_t *label, size_t label_len,
     const uint16_t *tour, size_t tour_len,
     const uint16_t *lift, size_t lift_len,
+    const uint16_t *order, size_t order_len,
     uint16_t *work, size_t work_len,
     const uint16_t *question, size_t question_len,
     uint16_t *answer, size_t answer_len,
     uint16_t *trail, size_t trail_len,
+    uint64_t *value);
+
+/*
+ * The subtree of a part: where it stands in the order table that was lent. Tests 1 to 8, and 10 of `part`, at 0. Writes: work.
+ *
+ * Of an accepted call *value is the count of the parts that `part` carries, 1 or more, and *start the cell at which they begin: they are
+ * order[*start] to order[*start + *value - 1], in preorder, and the first of them is `part`. Nothing is copied. After a refusal *start is 0.
+ *
+ * It compares the tables as a call that answers does, and that is nearly all its time.
+ */
+uint32_t lca_subtree(
+    const uint16_t *parents, size_t parents_len,
+    const uint16_t *label, size_t label_len,
+    const uint16_t *tour, size_t tour_len,
+    const uint16_t *lift, size_t lift_len,
+    const uint16_t *order, size_t order_len,
+    uint16_t *work, size_t work_len,
+    size_t part,
+    uint64_t *start,
     uint64_t *value);
 
 #ifdef __cplusplus

@@ -21,7 +21,7 @@
 #error "LCA_VERSION must be a number from 1 on that #if can read"
 #endif
 
-enum { PARTS = 7, LABEL = 42, TOUR = 72, LIFT = 21, WORK = 28 };
+enum { PARTS = 7, LABEL = 42, TOUR = 72, LIFT = 21, ORDER = 7, WORK = 28 };
 
 /* What a cell holds that no call has written. */
 enum { UNTOUCHED = 9999 };
@@ -29,7 +29,7 @@ enum { UNTOUCHED = 9999 };
 /* The known sheet. */
 static const uint16_t parents[PARTS] = {0, 0, 0, 1, 1, 2, 5};
 
-static uint16_t label[LABEL], tour[TOUR], lift[LIFT], work[WORK];
+static uint16_t label[LABEL], tour[TOUR], lift[LIFT], order[ORDER], work[WORK];
 
 static int all_right = 1;
 
@@ -60,19 +60,19 @@ static void test_version(void)
 }
 
 struct lengths {
-    size_t n, label, tour, lift, work;
+    size_t n, label, tour, lift, order, work;
 };
 
 static void test_lengths(void)
 {
     static const struct lengths all[] = {
-        {0, 0, 0, 0, 0},
-        {1, 6, 3, 1, 4},
-        {3, 18, 23, 6, 12},
-        {PARTS, LABEL, TOUR, LIFT, WORK},
-        {16384, 98304, 540656, 245760, 65536},
-        {16385, 0, 0, 0, 0},
-        {(size_t)-1, 0, 0, 0, 0},
+        {0, 0, 0, 0, 0, 0},
+        {1, 6, 3, 1, 1, 4},
+        {3, 18, 23, 6, 3, 12},
+        {PARTS, LABEL, TOUR, LIFT, ORDER, WORK},
+        {16384, 98304, 540656, 245760, 16384, 65536},
+        {16385, 0, 0, 0, 0, 0},
+        {(size_t)-1, 0, 0, 0, 0, 0},
     };
     size_t i;
     for (i = 0; i < sizeof all / sizeof all[0]; i++) {
@@ -80,6 +80,7 @@ static void test_lengths(void)
         expect_at("lca_label_cells", n, lca_label_cells(n), all[i].label);
         expect_at("lca_tour_cells", n, lca_tour_cells(n), all[i].tour);
         expect_at("lca_lift_cells", n, lca_lift_cells(n), all[i].lift);
+        expect_at("lca_order_cells", n, lca_order_cells(n), all[i].order);
         expect_at("lca_work_cells", n, lca_work_cells(n), all[i].work);
     }
     expect("LCA_MOST_PARTS", LCA_MOST_PARTS, 16384);
@@ -125,7 +126,7 @@ static void test_card(void)
 static void test_compare(void)
 {
     uint64_t value = UNTOUCHED;
-    uint32_t number = lca_compare(parents, PARTS, label, LABEL, tour, TOUR, lift, LIFT, work, WORK, &value);
+    uint32_t number = lca_compare(parents, PARTS, label, LABEL, tour, TOUR, lift, LIFT, order, ORDER, work, WORK, &value);
     expect("lca_compare", number, LCA_ACCEPTED);
     expect("lca_compare's value", value, 0);
 }
@@ -134,20 +135,23 @@ static void test_compare(void)
 static void test_build(void)
 {
     uint64_t value = UNTOUCHED;
+    uint32_t number;
     expect("lca_check", lca_check(parents, PARTS, work, WORK, &value), LCA_ACCEPTED);
     expect("lca_check's value", value, 0);
     value = UNTOUCHED;
-    expect("lca_build", lca_build(parents, PARTS, label, LABEL, tour, TOUR, lift, LIFT, work, WORK, &value), LCA_ACCEPTED);
+    number = lca_build(parents, PARTS, label, LABEL, tour, TOUR, lift, LIFT, order, ORDER, work, WORK, &value);
+    expect("lca_build", number, LCA_ACCEPTED);
     expect("lca_build's value", value, 0);
     expect_at("label", 41, label[41], 6);
     expect_at("tour", 64, tour[64], 6);
     expect_at("lift", 13, lift[13], 2);
+    expect_at("order", 4, order[4], 2);
     test_compare();
 }
 
 typedef uint32_t asking(
-    const uint16_t *, size_t, const uint16_t *, size_t, const uint16_t *, size_t, const uint16_t *, size_t, uint16_t *, size_t,
-    const uint16_t *, size_t, uint16_t *, size_t, uint64_t *);
+    const uint16_t *, size_t, const uint16_t *, size_t, const uint16_t *, size_t, const uint16_t *, size_t, const uint16_t *, size_t,
+    uint16_t *, size_t, const uint16_t *, size_t, uint16_t *, size_t, uint64_t *);
 
 /* Asks for the pairs 3 4 and 3 6, whose carriers are 1 and 0. */
 static void test_pairs(const char *what, asking *call)
@@ -155,7 +159,8 @@ static void test_pairs(const char *what, asking *call)
     static const uint16_t question[4] = {3, 4, 3, 6};
     uint16_t answer[2] = {UNTOUCHED, UNTOUCHED};
     uint64_t value = UNTOUCHED;
-    uint32_t number = call(parents, PARTS, label, LABEL, tour, TOUR, lift, LIFT, work, WORK, question, 4, answer, 2, &value);
+    uint32_t number = call(
+        parents, PARTS, label, LABEL, tour, TOUR, lift, LIFT, order, ORDER, work, WORK, question, 4, answer, 2, &value);
     expect(what, number, LCA_ACCEPTED);
     expect_at(what, 0, answer[0], 1);
     expect_at(what, 1, answer[1], 0);
@@ -167,7 +172,8 @@ static void test_list(void)
     static const uint16_t question[3] = {6, 5, 2};
     uint16_t answer = UNTOUCHED;
     uint64_t value = UNTOUCHED;
-    uint32_t number = lca_list(parents, PARTS, label, LABEL, tour, TOUR, lift, LIFT, work, WORK, question, 3, &answer, 1, &value);
+    uint32_t number = lca_list(
+        parents, PARTS, label, LABEL, tour, TOUR, lift, LIFT, order, ORDER, work, WORK, question, 3, &answer, 1, &value);
     expect("lca_list", number, LCA_ACCEPTED);
     expect("lca_list's answer", answer, 2);
     expect("lca_list's value", value, 0);
@@ -181,7 +187,8 @@ static void test_trail(void)
     uint64_t value = UNTOUCHED;
     size_t i;
     uint32_t number = lca_trail(
-        parents, PARTS, label, LABEL, tour, TOUR, lift, LIFT, work, WORK, pair, 2, &answer, 1, trail, LCA_TRAIL_CELLS, &value);
+        parents, PARTS, label, LABEL, tour, TOUR, lift, LIFT, order, ORDER, work, WORK, pair, 2, &answer, 1, trail, LCA_TRAIL_CELLS,
+        &value);
     expect("lca_trail", number, LCA_ACCEPTED);
     expect("lca_trail's count of lifts", value, 3);
     expect("lca_trail's answer", answer, 0);
@@ -190,12 +197,41 @@ static void test_trail(void)
     }
 }
 
+/* Asks for the subtree of a part, with so many cells of the order table. */
+static void test_subtree_of(size_t part, size_t cells, uint32_t must, uint64_t start_must, uint64_t value_must)
+{
+    uint64_t start = UNTOUCHED, value = UNTOUCHED;
+    uint32_t number = lca_subtree(
+        parents, PARTS, label, LABEL, tour, TOUR, lift, LIFT, order, cells, work, WORK, part, &start, &value);
+    expect_at("lca_subtree", part, number, must);
+    expect_at("the start of the subtree", part, start, start_must);
+    expect_at("the value of the subtree", part, value, value_must);
+}
+
+/* The parts in preorder are 0 1 3 4 2 5 6: part 2 carries the last three of them, part 6 the last alone. */
+static void test_subtree(void)
+{
+    static const uint16_t carried[3] = {2, 5, 6};
+    size_t i;
+    test_subtree_of(0, ORDER, LCA_ACCEPTED, 0, 7);
+    test_subtree_of(2, ORDER, LCA_ACCEPTED, 4, 3);
+    test_subtree_of(6, ORDER, LCA_ACCEPTED, 6, 1);
+    test_subtree_of(7, ORDER, LCA_NO_SUCH_PART, 0, 0);
+    test_subtree_of(65536 + 2, ORDER, LCA_NO_SUCH_PART, 0, 0);
+    test_subtree_of((size_t)-1, ORDER, LCA_NO_SUCH_PART, 0, 0);
+    test_subtree_of(2, ORDER - 1, LCA_MISFIT, 0, 8);
+    for (i = 0; i < 3; i++) {
+        expect_at("order", 4 + i, order[4 + i], carried[i]);
+    }
+    test_compare();
+}
+
 /* Parts 1 and 2 are bolted into each other. The refusal changes no table: what was lent is still the known sheet's. */
 static void test_refusal(void)
 {
     static const uint16_t loop[3] = {0, 2, 1};
     uint64_t value = UNTOUCHED;
-    expect("lca_build of a loop", lca_build(loop, 3, label, 18, tour, 23, lift, 6, work, 12, &value), LCA_LOOP);
+    expect("lca_build of a loop", lca_build(loop, 3, label, 18, tour, 23, lift, 6, order, 3, work, 12, &value), LCA_LOOP);
     expect("the loop's place", value, 1);
     test_compare();
 }
@@ -211,6 +247,7 @@ int main(void)
     test_pairs("lca_pairs_by_lifts", lca_pairs_by_lifts);
     test_list();
     test_trail();
+    test_subtree();
     test_refusal();
     return all_right ? EXIT_SUCCESS : EXIT_FAILURE;
 }

@@ -1,5 +1,5 @@
 -- What a C caller derives from a call's contract, of every call alike: the number and the value from the inputs alone, and that 0 says accepted. `read` is the
--- library's own definition of the verdict and the count that an answer is. `lca_trail`, which counts, is written out at the end.
+-- library's own definition of the verdict and the count that an answer is. `lca_trail` and `lca_subtree`, which count, are written out at the end.
 -- Assumes nothing.
 use Prim.Native.Nat.{ℕ}
 use mathlib.Core.Path.{_≡_, refl, sym, ap, _∙_}
@@ -8,14 +8,18 @@ use mathlib.Core.List.{List, [], _∷_}
 use native.Mathlib.Omega.{arith}
 use Rattle.tree.specs.declared.Refusal.{Refusal}
 use Rattle.tree.specs.declared.Refusal.the-variants.{Empty, TooLarge, WrongLength, ParentOutOfRange, NoRoot, SecondRoot, Cycle, StaleTable, NothingListed, NodeOutOfRange, NoCommonAncestor, MalformedLine}
-use Rattle.tree.specs.Verdict.{Verdict, accepted, refused, numberOf, tracedOf}
+use Rattle.tree.specs.Verdict.{Verdict, accepted, refused, numberOf, tracedOf, startOf}
 use Rattle.tree.specs.Tests.{Test, verdict}
 use Rattle.tree.specs.Buffers.{filled}
 use Rattle.tree.specs.Trail.{lifts}
 use Rattle.tree.specs.Pairs.{leftOf, rightOf}
 use Rattle.tree.proofs.Scans.{by-test}
+use Rattle.tree.specs.Preorder.{size}
+use Rattle.tree.specs.Tables.{Lent}
+use Rattle.tree.specs.Lending.{partVerdict}
 use Rattle.routes.specs.Answers.{Asked, trailVerdict, TrailGives}
-use Rattle.lca.specs.Returned.{numberIn, valueIn, Returned}
+use Rattle.subtrees.specs.Stretch.{startBy, LocateGives}
+use Rattle.lca.specs.Returned.{numberIn, valueIn, locatedCount, Returned}
 
 -- no refusal has the number 0
 refused-number : (r : Refusal) → numberOf r ≢ 0
@@ -71,3 +75,19 @@ module _ {a : Asked} {rows work′ answer′ rows′ : List ℕ} {number value :
   -- and 0 says that they accept
   pub trail-zero : number ≡ 0 → trailVerdict a rows ≡ accepted
   trail-zero = zero-accepts c _ (λ r g. g .answered .outcome)
+
+-- ---- `lca_subtree`
+
+module _ {t : Lent} {part start : ℕ} {before after : List ℕ} {number value : ℕ}
+    (c : Returned locatedCount (λ r. LocateGives t part before r after × (start ≡ startOf r)) number value) where
+  -- the number is the tests', the value the place of the refusal or the count of the stretch, and the start the stretch's, or 0
+  pub subtree-returned : (number ≡ numberIn (partVerdict t before part)) × (value ≡ valueIn (partVerdict t before part) (size (t .parents) part))
+      × (start ≡ startBy (partVerdict t before part) (t .parents) part)
+  subtree-returned =
+      let v = partVerdict t before part in
+      let (is, counts) = returned-verdict c v _ (λ r g. (g .0 .answered .outcome, g .0 .count)) in
+      (is, counts ∙ value-counted v _, c .gives .1 ∙ c .gives .0 .start)
+
+  -- and 0 says that they accept
+  pub subtree-zero : number ≡ 0 → partVerdict t before part ≡ accepted
+  subtree-zero = zero-accepts c _ (λ r g. g .0 .answered .outcome)

@@ -3,7 +3,8 @@
 use Prim.Native.Nat.{ℕ}
 use mathlib.Core.Path.{_≡_}
 use Rattle.tree.specs.declared.Outcome.{Outcome}
-use Rattle.tree.specs.Verdict.{Verdict, accepted, refused, verdictOf}
+use Rattle.tree.specs.declared.Located.{Located}
+use Rattle.tree.specs.Verdict.{Verdict, accepted, refused, verdictOf, locatedOf}
 
 -- the number that is returned: the refusal's, 0 for an accepted call
 abbrev pub numberIn : Verdict → ℕ
@@ -18,6 +19,10 @@ valueIn (refused number place) count = place
 -- an outcome's verdict; an accepted call counts nothing
 abbrev pub outcomeOf : Outcome → Verdict × ℕ
 outcomeOf r = (verdictOf r, 0)
+
+-- a subtree's verdict, and the count of its parts
+abbrev pub locatedCount : Located → Verdict × ℕ
+locatedCount r = let (verdict, start, count) = locatedOf r in (verdict, count)
 
 -- a call of the library gave an answer of which its contract `Gives` holds, and these are the answer's number and value; `read` is the
 -- library's own definition of the verdict and the count that such an answer is

@@ -1,24 +1,27 @@
-// The calls of `tables` and `routes` for C, and for whatever calls C's functions: a slice is a pointer and its length in cells (include/lca.h). Each
+// The calls of `tables`, `routes` and `subtrees` for C, and for whatever calls C's functions: a slice is a pointer and its length in cells (include/lca.h). Each
 // returns the number of its refusal, 0 where it is accepted, and stores at `value` the refusal's place, or 0 where it is accepted; of an
-// accepted trail, the count of its lifts. What it does besides is what the library's call of that name does, by the same contract.
+// accepted trail the count of its lifts, of an accepted subtree that of its parts. What it does besides is what the library's call of that name does, by the
+// same contract.
 // `lca_version` is no such call: it says which version of this interface the archive has.
 
+use tree::Located;
 use tree::Outcome;
 use tree::Refusal;
 use tree::Traced;
 ghost use mathlib.Core.Path.{_≡_};
-ghost use Rattle.tree.specs.Verdict.{numberOf, placeOf, verdictOf, tracedOf};
+ghost use Rattle.tree.specs.Verdict.{numberOf, placeOf, verdictOf, tracedOf, startOf};
 ghost use Rattle.tree.specs.Tables.{lentBy};
 ghost use Rattle.tree.specs.Routes.{byLabels, byTour};
 ghost use Rattle.tree.specs.Trail.{byLifts};
 ghost use Rattle.tables.specs.Check.{CheckGives};
 ghost use Rattle.tables.specs.Lend.{BuildGives, LentGives};
 ghost use Rattle.routes.specs.Answers.{askedBy, PairsGive, TrailGives, ListGives};
-ghost use Rattle.lca.specs.Returned.{numberIn, valueIn, outcomeOf, Returned};
+ghost use Rattle.subtrees.specs.Stretch.{LocateGives};
+ghost use Rattle.lca.specs.Returned.{numberIn, valueIn, outcomeOf, locatedCount, Returned};
 ghost use Rattle.lca.specs.Version.{version};
 
 // The version of the interface, as LCA_VERSION in include/lca.h has it.
-const VERSION: u32 = 1;
+const VERSION: u32 = 2;
 
 // The version of the interface that the archive has.
 #[no_mangle]
@@ -44,15 +47,16 @@ pub extern "C" fn lca_build(
     label: &mut [u16],
     tour: &mut [u16],
     lift: &mut [u16],
+    order: &mut [u16],
     work: &mut [u16],
     value: &mut u64,
 ) -> u32
     ensures { λ number. ⌜ Returned outcomeOf
-        (λ r. BuildGives (lentBy (parents .entry) (label .entry) (tour .entry) (lift .entry))
-        (now (work .entry)) r (now (label .exit)) (now (tour .exit)) (now (lift .exit)) (now (work .exit)))
+        (λ r. BuildGives (lentBy (parents .entry) (label .entry) (tour .entry) (lift .entry) (order .entry))
+        (now (work .entry)) r (now (label .exit)) (now (tour .exit)) (now (lift .exit)) (now (order .exit)) (now (work .exit)))
         number (now (value .exit)) ⌝ }
 {
-    let r = tables::build(parents, label, tour, lift, work);
+    let r = tables::build(parents, label, tour, lift, order, work);
     returned(r, value)
 }
 
@@ -63,15 +67,16 @@ pub extern "C" fn lca_compare(
     label: &[u16],
     tour: &[u16],
     lift: &[u16],
+    order: &[u16],
     work: &mut [u16],
     value: &mut u64,
 ) -> u32
     ensures { λ number. ⌜ Returned outcomeOf
-        (λ r. LentGives (lentBy (parents .entry) (label .entry) (tour .entry) (lift .entry))
+        (λ r. LentGives (lentBy (parents .entry) (label .entry) (tour .entry) (lift .entry) (order .entry))
         0 (now (work .entry)) r (now (work .exit)))
         number (now (value .exit)) ⌝ }
 {
-    let r = tables::compare(parents, label, tour, lift, work);
+    let r = tables::compare(parents, label, tour, lift, order, work);
     returned(r, value)
 }
 
@@ -82,16 +87,17 @@ pub extern "C" fn lca_pairs_by_labels(
     label: &[u16],
     tour: &[u16],
     lift: &[u16],
+    order: &[u16],
     work: &mut [u16],
     question: &[u16],
     answer: &mut [u16],
     value: &mut u64,
 ) -> u32
     ensures { λ number. ⌜ Returned outcomeOf
-        (λ r. PairsGive byLabels (askedBy (parents .entry) (label .entry) (tour .entry) (lift .entry) (work .entry) (question .entry) (answer .entry))
+        (λ r. PairsGive byLabels (askedBy (parents .entry) (label .entry) (tour .entry) (lift .entry) (order .entry) (work .entry) (question .entry) (answer .entry))
         r (now (work .exit)) (now (answer .exit))) number (now (value .exit)) ⌝ }
 {
-    let r = routes::pairs_by_labels(parents, label, tour, lift, work, question, answer);
+    let r = routes::pairs_by_labels(parents, label, tour, lift, order, work, question, answer);
     returned(r, value)
 }
 
@@ -102,16 +108,17 @@ pub extern "C" fn lca_pairs_by_tour(
     label: &[u16],
     tour: &[u16],
     lift: &[u16],
+    order: &[u16],
     work: &mut [u16],
     question: &[u16],
     answer: &mut [u16],
     value: &mut u64,
 ) -> u32
     ensures { λ number. ⌜ Returned outcomeOf
-        (λ r. PairsGive byTour (askedBy (parents .entry) (label .entry) (tour .entry) (lift .entry) (work .entry) (question .entry) (answer .entry))
+        (λ r. PairsGive byTour (askedBy (parents .entry) (label .entry) (tour .entry) (lift .entry) (order .entry) (work .entry) (question .entry) (answer .entry))
         r (now (work .exit)) (now (answer .exit))) number (now (value .exit)) ⌝ }
 {
-    let r = routes::pairs_by_tour(parents, label, tour, lift, work, question, answer);
+    let r = routes::pairs_by_tour(parents, label, tour, lift, order, work, question, answer);
     returned(r, value)
 }
 
@@ -122,16 +129,17 @@ pub extern "C" fn lca_pairs_by_lifts(
     label: &[u16],
     tour: &[u16],
     lift: &[u16],
+    order: &[u16],
     work: &mut [u16],
     question: &[u16],
     answer: &mut [u16],
     value: &mut u64,
 ) -> u32
     ensures { λ number. ⌜ Returned outcomeOf
-        (λ r. PairsGive byLifts (askedBy (parents .entry) (label .entry) (tour .entry) (lift .entry) (work .entry) (question .entry) (answer .entry))
+        (λ r. PairsGive byLifts (askedBy (parents .entry) (label .entry) (tour .entry) (lift .entry) (order .entry) (work .entry) (question .entry) (answer .entry))
         r (now (work .exit)) (now (answer .exit))) number (now (value .exit)) ⌝ }
 {
-    let r = routes::pairs_by_lifts(parents, label, tour, lift, work, question, answer);
+    let r = routes::pairs_by_lifts(parents, label, tour, lift, order, work, question, answer);
     returned(r, value)
 }
 
@@ -142,16 +150,17 @@ pub extern "C" fn lca_list(
     label: &[u16],
     tour: &[u16],
     lift: &[u16],
+    order: &[u16],
     work: &mut [u16],
     question: &[u16],
     answer: &mut [u16],
     value: &mut u64,
 ) -> u32
     ensures { λ number. ⌜ Returned outcomeOf
-        (λ r. ListGives (askedBy (parents .entry) (label .entry) (tour .entry) (lift .entry) (work .entry) (question .entry) (answer .entry))
+        (λ r. ListGives (askedBy (parents .entry) (label .entry) (tour .entry) (lift .entry) (order .entry) (work .entry) (question .entry) (answer .entry))
         r (now (work .exit)) (now (answer .exit))) number (now (value .exit)) ⌝ }
 {
-    let r = routes::list(parents, label, tour, lift, work, question, answer);
+    let r = routes::list(parents, label, tour, lift, order, work, question, answer);
     returned(r, value)
 }
 
@@ -162,6 +171,7 @@ pub extern "C" fn lca_trail(
     label: &[u16],
     tour: &[u16],
     lift: &[u16],
+    order: &[u16],
     work: &mut [u16],
     question: &[u16],
     answer: &mut [u16],
@@ -169,11 +179,42 @@ pub extern "C" fn lca_trail(
     value: &mut u64,
 ) -> u32
     ensures { λ number. ⌜ Returned tracedOf
-        (λ r. TrailGives (askedBy (parents .entry) (label .entry) (tour .entry) (lift .entry) (work .entry) (question .entry) (answer .entry))
+        (λ r. TrailGives (askedBy (parents .entry) (label .entry) (tour .entry) (lift .entry) (order .entry) (work .entry) (question .entry) (answer .entry))
         (now (trail .entry)) r (now (work .exit)) (now (answer .exit)) (now (trail .exit))) number (now (value .exit)) ⌝ }
 {
-    let r = routes::trail(parents, label, tour, lift, work, question, answer, trail);
+    let r = routes::trail(
+        parents,
+        label,
+        tour,
+        lift,
+        order,
+        work,
+        question,
+        answer,
+        trail,
+    );
     traced(r, value)
+}
+
+// What a part carries: `subtrees::locate`. A refusal has no start: 0 is stored at `start`.
+#[no_mangle]
+pub extern "C" fn lca_subtree(
+    parents: &[u16],
+    label: &[u16],
+    tour: &[u16],
+    lift: &[u16],
+    order: &[u16],
+    work: &mut [u16],
+    part: usize,
+    start: &mut u64,
+    value: &mut u64,
+) -> u32
+    ensures { λ number. ⌜ Returned locatedCount
+        (λ r. LocateGives (lentBy (parents .entry) (label .entry) (tour .entry) (lift .entry) (order .entry))
+        part (now (work .entry)) r (now (work .exit)) × (now (start .exit) ≡ startOf r)) number (now (value .exit)) ⌝ }
+{
+    let r = subtrees::locate(parents, label, tour, lift, order, work, part);
+    located(r, start, value)
 }
 
 // An outcome as C sees it.
@@ -193,6 +234,23 @@ fn traced(r: Traced, value: &mut u64) -> u32
     match r {
         Traced::Lifts(count) => accept(count, value),
         Traced::Refused(why) => refuse(why, value),
+    }
+}
+
+// A subtree that was located as C sees it.
+fn located(r: Located, start: &mut u64, value: &mut u64) -> u32
+    ensures { λ number. ⌜ (number ≡ numberIn (locatedCount r .0)) × (now (value .exit) ≡ valueIn (locatedCount r .0) (locatedCount r .1))
+        × (now (start .exit) ≡ startOf r) ⌝ }
+{
+    match r {
+        Located::At(first, count) => {
+            *start = first as u64;
+            accept(count, value)
+        }
+        Located::Refused(why) => {
+            *start = 0;
+            refuse(why, value)
+        }
     }
 }
 
