@@ -95,12 +95,13 @@ sheet-read {input} {at} {n} {s} g e long = rw e at (g .is) ∙ ap (λ (k : ℕ).
 
 -- it goes with the same tables and work
 pub sized-as : {t : Lent} {work s : List ℕ} → Sized t work → length s ≡ length (t .parents)
-    → Sized (record { parents = s; label = t .label; tour = t .tour; lift = t .lift }) work
+    → Sized (record { parents = s; label = t .label; tour = t .tour; lift = t .lift; order = t .order }) work
 sized-as z e = record {
   some = rw e (z .some);
   small = rw e (z .small);
   label-cells = rw e (z .label-cells);
   tour-cells = rw e (z .tour-cells);
   lift-cells = rw e (z .lift-cells);
+  order-cells = rw e (z .order-cells);
   room = rw e (z .room);
 }

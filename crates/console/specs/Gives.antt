@@ -7,7 +7,7 @@ use mathlib.Core.List.{List}
 use mathlib.Core.Option.{Option, none, some}
 use lib.ListN.{length, drop}
 use Rattle.tree.specs.Tests.{Accepted}
-use Rattle.tree.specs.Buffers.{labelCells, tourCells, liftCells, workCells}
+use Rattle.tree.specs.Buffers.{labelCells, tourCells, liftCells, orderCells, workCells}
 use Rattle.tree.specs.Tables.{Lent, own}
 use Rattle.text.specs.Lines.{Lines, lines}
 use Rattle.lines.specs.Forms.{Query}
@@ -74,4 +74,5 @@ pub record Sized (t : Lent) (work : List ℕ) : Type 0 where
   pub label-cells : length (t .label) ≡ labelCells (length (t .parents))
   pub tour-cells : length (t .tour) ≡ tourCells (length (t .parents))
   pub lift-cells : length (t .lift) ≡ liftCells (length (t .parents))
+  pub order-cells : length (t .order) ≡ orderCells (length (t .parents))
   pub room : length work ≡ workCells (length (t .parents))

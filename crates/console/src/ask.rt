@@ -35,12 +35,13 @@ pub(crate) fn questions(
     label: &[u16],
     tour: &[u16],
     lift: &[u16],
+    order: &[u16],
     work: &mut [u16],
     out: &mut [u8],
     put: usize,
 ) -> usize
     requires { ⌜ (at ≤ length (now input)) × (first ≤ partLine most) ⌝ }
-    requires { ⌜ Stands (lentBy parents label tour lift) (now work) ⌝ }
+    requires { ⌜ Stands (lentBy parents label tour lift order) (now work) ⌝ }
     requires { ⌜ Room (now out) put (Run·questions (now parents) first (lines (drop at (now input)))) ⌝ }
     ensures { λ r. ⌜ Puts (now (out .entry)) put (Run·questions (now (parents .entry)) first (lines (drop at (now (input .entry))))) (now (out .exit)) r ⌝ }
 {
@@ -52,7 +53,18 @@ pub(crate) fn questions(
         let Asks::Question(q, end) = question(input, i, &mut beside) else {
             return print::refusal(out, next, Refusal::MalformedLine(number));
         };
-        next = answer(q, &beside, parents, label, tour, lift, work, out, next);
+        next = answer(
+            q,
+            &beside,
+            parents,
+            label,
+            tour,
+            lift,
+            order,
+            work,
+            out,
+            next,
+        );
         i = end;
         number += 1;
     }
@@ -83,18 +95,29 @@ fn answer(
     label: &[u16],
     tour: &[u16],
     lift: &[u16],
+    order: &[u16],
     work: &mut [u16],
     out: &mut [u8],
     put: usize,
 ) -> usize
     requires { ⌜ listedBy q ≤ length (now beside) ⌝ }
-    requires { ⌜ Stands (lentBy parents label tour lift) (now work) ⌝ }
+    requires { ⌜ Stands (lentBy parents label tour lift order) (now work) ⌝ }
     requires { ⌜ Room (now out) put (Run·answer (now parents) (queryOf (now beside) q)) ⌝ }
     ensures { λ r. ⌜ Puts (now (out .entry)) put (Run·answer (now (parents .entry)) (queryOf (now (beside .entry)) q)) (now (out .exit)) r ⌝ }
 {
     match q {
-        Question::Pair(x, y) => pair(x, y, parents, label, tour, lift, work, out, put),
-        Question::Many(count) => many(&beside[..count], parents, label, tour, lift, work, out, put),
+        Question::Pair(x, y) => pair(x, y, parents, label, tour, lift, order, work, out, put),
+        Question::Many(count) => many(
+            &beside[..count],
+            parents,
+            label,
+            tour,
+            lift,
+            order,
+            work,
+            out,
+            put,
+        ),
     }
 }
 
@@ -106,11 +129,12 @@ fn pair(
     label: &[u16],
     tour: &[u16],
     lift: &[u16],
+    order: &[u16],
     work: &mut [u16],
     out: &mut [u8],
     put: usize,
 ) -> usize
-    requires { ⌜ Stands (lentBy parents label tour lift) (now work) ⌝ }
+    requires { ⌜ Stands (lentBy parents label tour lift order) (now work) ⌝ }
     requires { ⌜ Room (now out) put (Run·answer (now parents) (Forms·pair x y)) ⌝ }
     ensures { λ r. ⌜ Puts (now (out .entry)) put (Run·answer (now (parents .entry)) (Forms·pair x y)) (now (out .exit)) r ⌝ }
 {
@@ -122,6 +146,7 @@ fn pair(
         label,
         tour,
         lift,
+        order,
         work,
         &question,
         &mut answer,
@@ -150,16 +175,26 @@ fn many(
     label: &[u16],
     tour: &[u16],
     lift: &[u16],
+    order: &[u16],
     work: &mut [u16],
     out: &mut [u8],
     put: usize,
 ) -> usize
-    requires { ⌜ Stands (lentBy parents label tour lift) (now work) ⌝ }
+    requires { ⌜ Stands (lentBy parents label tour lift order) (now work) ⌝ }
     requires { ⌜ Room (now out) put (Run·answer (now parents) (Forms·many (now question))) ⌝ }
     ensures { λ r. ⌜ Puts (now (out .entry)) put (Run·answer (now (parents .entry)) (Forms·many (now (question .entry)))) (now (out .exit)) r ⌝ }
 {
     let mut answer = [0u16; 1];
-    let r = routes::list(parents, label, tour, lift, work, question, &mut answer);
+    let r = routes::list(
+        parents,
+        label,
+        tour,
+        lift,
+        order,
+        work,
+        question,
+        &mut answer,
+    );
     let Outcome::Accepted = r else {
         return print::outcome(out, put, r);
     };

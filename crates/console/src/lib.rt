@@ -67,6 +67,7 @@ fn machine(input: &[u8], at: usize, n: usize, out: &mut [u8]) -> usize
     let mut label = size::label();
     let mut tour = size::tour();
     let mut lift = size::lift();
+    let mut order = size::order();
     let mut work = size::work();
     let label_cells = 6 * n;
     let tour_cells = size::tour_cells(n);
@@ -79,6 +80,7 @@ fn machine(input: &[u8], at: usize, n: usize, out: &mut [u8]) -> usize
         &mut label[..label_cells],
         &mut tour[..tour_cells],
         &mut lift[..lift_cells],
+        &mut order[..n],
         &mut work[..work_cells],
         out,
         put,
@@ -93,17 +95,29 @@ fn read_sheet(
     label: &mut [u16],
     tour: &mut [u16],
     lift: &mut [u16],
+    order: &mut [u16],
     work: &mut [u16],
     out: &mut [u8],
     put: usize,
 ) -> usize
     requires { ⌜ at ≤ length (now input) ⌝ }
-    requires { ⌜ Sized (lentBy parents label tour lift) (now work) ⌝ }
+    requires { ⌜ Sized (lentBy parents label tour lift order) (now work) ⌝ }
     requires { ⌜ Room (now out) put (sheetRun (parts (length (now parents)) 0 (lines (drop at (now input))))) ⌝ }
     ensures { λ r. ⌜ Puts (now (out .entry)) put (sheetRun (parts (length (now (parents .entry))) 0 (lines (drop at (now (input .entry)))))) (now (out .exit)) r ⌝ }
 {
     match sheet::part_lines(input, at, parents) {
-        Entries::Whole(end) => test_sheet(input, end, parents, label, tour, lift, work, out, put),
+        Entries::Whole(end) => test_sheet(
+            input,
+            end,
+            parents,
+            label,
+            tour,
+            lift,
+            order,
+            work,
+            out,
+            put,
+        ),
         Entries::Illegible(number) => print::refusal(out, put, Refusal::MalformedLine(number)),
     }
 }
@@ -116,16 +130,17 @@ fn test_sheet(
     label: &mut [u16],
     tour: &mut [u16],
     lift: &mut [u16],
+    order: &mut [u16],
     work: &mut [u16],
     out: &mut [u8],
     put: usize,
 ) -> usize
     requires { ⌜ at ≤ length (now input) ⌝ }
-    requires { ⌜ Sized (lentBy parents label tour lift) (now work) ⌝ }
+    requires { ⌜ Sized (lentBy parents label tour lift order) (now work) ⌝ }
     requires { ⌜ Room (now out) put (sheetRun (Run·sheet (now parents) (lines (drop at (now input))))) ⌝ }
     ensures { λ r. ⌜ Puts (now (out .entry)) put (sheetRun (Run·sheet (now (parents .entry)) (lines (drop at (now (input .entry)))))) (now (out .exit)) r ⌝ }
 {
-    let r = tables::build(parents, label, tour, lift, work);
+    let r = tables::build(parents, label, tour, lift, order, work);
     let Outcome::Accepted = r else {
         return print::outcome(out, put, r);
     };
@@ -137,6 +152,7 @@ fn test_sheet(
         label,
         tour,
         lift,
+        order,
         work,
         out,
         put,

@@ -74,6 +74,13 @@ pub(crate) fn lift() -> [u16; 5120]
     [0; 5120]
 }
 
+// The order table of 512 parts.
+pub(crate) fn order() -> [u16; 512]
+    ensures { λ r. ⌜ 512 ≡ length r ⌝ }
+{
+    [0; 512]
+}
+
 // The work of 512 parts.
 pub(crate) fn work() -> [u16; 2048]
     ensures { λ r. ⌜ 2048 ≡ length r ⌝ }

@@ -15,7 +15,7 @@ start c = c .before .before .before .before
 
 -- the machine line that was printed, from the first buffer's part that is lent
 abbrev printed : tie.After-parents2 → tie.After-machine
-printed c = c .before .before .before .before .before .before .before .before .before .before
+printed c = c .before .before .before .before .before .before .before .before .before .before .before
 
 machine-requires : tie.Need-machine-requires
 machine-requires c κs = let s = c .before .before .before in room-first _ (machineLine (s .args .n)) _ (s .pre .1)
@@ -31,6 +31,9 @@ tour-requires c κs = search needs
 
 lift-requires : tie.Need-lift-requires
 lift-requires c κs = search needs
+
+order-requires : tie.Need-order-requires
+order-requires c κs = search needs
 
 work-requires : tie.Need-work-requires
 work-requires c κs = search needs
@@ -71,16 +74,23 @@ array-borrow-prefix-lift c = search needs
 slice-aggregate-read-sheet-4 : tie.Need-slice-aggregate-read-sheet-4
 slice-aggregate-read-sheet-4 c = sym (length-take-le _ _ (array-borrow-prefix-lift (c .before)))
 
+array-borrow-prefix-order : tie.Need-array-borrow-prefix-order
+array-borrow-prefix-order c = search needs
+
+slice-aggregate-read-sheet-5 : tie.Need-slice-aggregate-read-sheet-5
+slice-aggregate-read-sheet-5 c = sym (length-take-le _ _ (array-borrow-prefix-order (c .before)))
+
 array-borrow-prefix-work : tie.Need-array-borrow-prefix-work
 array-borrow-prefix-work c = search needs
 
-slice-aggregate-read-sheet-5 : tie.Need-slice-aggregate-read-sheet-5
-slice-aggregate-read-sheet-5 c = sym (length-take-le _ _ (array-borrow-prefix-work (c .before)))
+slice-aggregate-read-sheet-6 : tie.Need-slice-aggregate-read-sheet-6
+slice-aggregate-read-sheet-6 c = sym (length-take-le _ _ (array-borrow-prefix-work (c .before)))
 
 read-sheet-requires : tie.Need-read-sheet-requires
 read-sheet-requires c κs =
     let work = c .before in
-    let lift = work .before in
+    let order = work .before in
+    let lift = order .before in
     let tour = lift .before in
     let label = tour .before in
     let parents = label .before in
@@ -89,7 +99,8 @@ read-sheet-requires c κs =
     let lift-long = sym (parents .before .lift-cells .ensures .0) ∙ slice-aggregate-read-sheet-4 lift in
     let m = printed parents in
     let (some, few, there) = start m .pre .0 in
-    let sized = sized-of _ some few long (slice-aggregate-read-sheet-2 label) tour-long lift-long (slice-aggregate-read-sheet-5 work) in
+    let sized =
+    sized-of _ some few long (slice-aggregate-read-sheet-2 label) tour-long lift-long (slice-aggregate-read-sheet-5 order) (slice-aggregate-read-sheet-6 work) in
     (there, (sized, rw (← long) (room-then (machineLine (start m .args .n)) _ (start m .pre .1) (m .machine .ensures))))
 
 same-length : tie.Need-same-length
@@ -97,11 +108,11 @@ same-length c = search needs
 
 returns : tie.Need-returns
 returns c =
-    let c7 = c .before .before .before .before .before .before .before in
-    let parents = c7 .before .before .before .before .before .before in
+    let c8 = c .before .before .before .before .before .before .before .before in
+    let parents = c8 .before .before .before .before .before .before .before in
     let m = printed parents in
     puts-then (machineLine (start m .args .n)) _ (start m .pre .1) (m .machine .ensures)
-    (rw (← slice-aggregate-read-sheet parents) at (c7 .read-sheet .ensures))
+    (rw (← slice-aggregate-read-sheet parents) at (c8 .read-sheet .ensures))
 
 pub machine-spec : {M : Type 1} → statement M
 machine-spec =
@@ -112,6 +123,7 @@ machine-spec =
     label-requires
     tour-requires
     lift-requires
+    order-requires
     work-requires
     mul-label-cells
     tour-cells-requires
@@ -125,8 +137,10 @@ machine-spec =
     slice-aggregate-read-sheet-3
     array-borrow-prefix-lift
     slice-aggregate-read-sheet-4
-    array-borrow-prefix-work
+    array-borrow-prefix-order
     slice-aggregate-read-sheet-5
+    array-borrow-prefix-work
+    slice-aggregate-read-sheet-6
     read-sheet-requires
     same-length
     returns)

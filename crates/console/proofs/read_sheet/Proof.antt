@@ -8,7 +8,7 @@ use Rattle.console.proofs.read_sheet.Tie as tie
 
 -- what was lent, from the entries that were read
 abbrev start : tie.After-parents → tie.Start
-start c = c .before .before .before .before .before .before .before .before .before .before
+start c = c .before .before .before .before .before .before .before .before .before .before .before
 
 part-lines-requires : tie.Need-part-lines-requires
 part-lines-requires c κs = search needs
@@ -18,9 +18,9 @@ enum-known-end c = search needs
 
 test-sheet-requires : tie.Need-test-sheet-requires
 test-sheet-requires c κs =
-    let c7 = c .before .before .before .before .before .before .before in
-    let p = c7 .before .before .before in
-    let end = c7 .end .given .1 in
+    let c8 = c .before .before .before .before .before .before .before .before in
+    let p = c8 .before .before .before in
+    let end = c8 .end .given .1 in
     let (_, (sized, room)) = start p .pre in
     let all = p .before .part-lines .ensures in
     (all .within _ end, (sized-as sized (p .parents .given), rw (sheet-read all end (p .parents .given)) room))
@@ -53,18 +53,21 @@ same-length-5 c = search needs
 same-length-6 : tie.Need-same-length-6
 same-length-6 c = search needs
 
-returns : tie.Need-returns
-returns c =
-    let c10 = c .before .before .before .before .before .before .before .before .before .before in
-    let c18 = c10 .before .before .before .before .before .before .before .before in
-    let p = c18 .before .before .before in
-    rw (sheet-read (p .before .part-lines .ensures) (c18 .end .given .1) (p .parents .given)) at (c10 .test-sheet .ensures)
-
 same-length-7 : tie.Need-same-length-7
 same-length-7 c = search needs
 
+returns : tie.Need-returns
+returns c =
+    let c12 = c .before .before .before .before .before .before .before .before .before .before .before .before in
+    let c21 = c12 .before .before .before .before .before .before .before .before .before in
+    let p = c21 .before .before .before in
+    rw (sheet-read (p .before .part-lines .ensures) (c21 .end .given .1) (p .parents .given)) at (c12 .test-sheet .ensures)
+
 same-length-8 : tie.Need-same-length-8
 same-length-8 c = search needs
+
+same-length-9 : tie.Need-same-length-9
+same-length-9 c = search needs
 
 returns-2 : tie.Need-returns-2
 unfolding sheetRun
@@ -88,7 +91,8 @@ read-sheet-spec =
     same-length-4
     same-length-5
     same-length-6
-    returns
     same-length-7
+    returns
     same-length-8
+    same-length-9
     returns-2)

@@ -14,11 +14,11 @@ rest start = lines (drop (start .args .at) (start .args .input .now))
 
 -- where the call began, from the call that built the tables
 abbrev start : tie.After-build → tie.Start
-start c = c .before .before .before .before .before .before .before .before .before .before .before .before
+start c = c .before .before .before .before .before .before .before .before .before .before .before .before .before .before
 
 -- the call that built the tables, from the work that came back
 abbrev built : tie.After-work → tie.After-build
-built c = c .before .before .before .before .before .before .before
+built c = c .before .before .before .before .before .before .before .before .before
 
 build-requires : tie.Need-build-requires
 build-requires c κs = search needs
@@ -50,6 +50,9 @@ same-length-4 c = search needs
 same-length-5 : tie.Need-same-length-5
 same-length-5 c = search needs
 
+same-length-6 : tie.Need-same-length-6
+same-length-6 c = search needs
+
 returns : tie.Need-returns
 returns c =
     let c4 = c .before .before .before .before in
@@ -62,16 +65,13 @@ add-questions c = search needs
 
 questions-requires : tie.Need-questions-requires
 questions-requires c κs =
-    let c5 = c .before .before .before .before .before in
-    let b = built (c5 .before .before .before) in
+    let c6 = c .before .before .before .before .before .before in
+    let b = built (c6 .before .before .before) in
     let s = start b in
     let (there, (sized, room)) = s .pre in
     let g = b .build .ensures in
-    let accepted = c5 .enum-told .given .1 in
+    let accepted = c6 .enum-told .given .1 in
     ((there, omega (arith, sized .small)), (sheet-stands sized g accepted, rw (sheet-accepted sized g accepted (rest s)) room))
-
-same-length-6 : tie.Need-same-length-6
-same-length-6 c = search needs
 
 same-length-7 : tie.Need-same-length-7
 same-length-7 c = search needs
@@ -85,13 +85,19 @@ same-length-9 c = search needs
 same-length-10 : tie.Need-same-length-10
 same-length-10 c = search needs
 
+same-length-11 : tie.Need-same-length-11
+same-length-11 c = search needs
+
+same-length-12 : tie.Need-same-length-12
+same-length-12 c = search needs
+
 returns-2 : tie.Need-returns-2
 returns-2 c =
     let c4 = c .before .before .before .before in
-    let c10 = c4 .before .before .before .before .before .before in
-    let b = built (c10 .before .before .before) in
+    let c11 = c4 .before .before .before .before .before .before .before in
+    let b = built (c11 .before .before .before) in
     let s = start b in
-    rw (sheet-accepted (s .pre .1 .0) (b .build .ensures) (c10 .enum-told .given .1) (rest s)) at (c4 .questions .ensures)
+    rw (sheet-accepted (s .pre .1 .0) (b .build .ensures) (c11 .enum-told .given .1) (rest s)) at (c4 .questions .ensures)
 
 pub test-sheet-spec : {M : Type 1} → statement M
 test-sheet-spec =
@@ -106,12 +112,14 @@ test-sheet-spec =
     same-length-3
     same-length-4
     same-length-5
+    same-length-6
     returns
     add-questions
     questions-requires
-    same-length-6
     same-length-7
     same-length-8
     same-length-9
     same-length-10
+    same-length-11
+    same-length-12
     returns-2)

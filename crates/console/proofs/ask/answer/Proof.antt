@@ -12,7 +12,7 @@ enum-known-q c = search needs
 pair-requires : tie.Need-pair-requires
 pair-requires c κs =
     let q = c .before .before .before in
-    let s = q .before .before .before .before .before .before .before .before .before in
+    let s = q .before .before .before .before .before .before .before .before .before .before in
     (s .pre .1 .0, rw (q .q .given .1) at (s .pre .1 .1))
 
 enum-known-q-2 : tie.Need-enum-known-q-2
@@ -21,14 +21,14 @@ enum-known-q-2 c = search needs
 slice-aggregate-many : tie.Need-slice-aggregate-many
 slice-aggregate-many c =
     let q = c .before .before in
-    let s = q .before .before .before .before .before .before .before .before .before in
+    let s = q .before .before .before .before .before .before .before .before .before .before in
     let few = rw (q .q2 .given .1) at (s .pre .0) in
     sym (length-take-le _ _ few)
 
 many-requires : tie.Need-many-requires
 many-requires c κs =
     let q = c .before .before .before .before in
-    let s = q .before .before .before .before .before .before .before .before .before in
+    let s = q .before .before .before .before .before .before .before .before .before .before in
     (s .pre .1 .0, rw (q .q2 .given .1) at (s .pre .1 .1))
 
 same-length : tie.Need-same-length

@@ -20,7 +20,7 @@ called c = c .before .before .before
 
 -- where this call began, from that one
 abbrev start : tie.After-list → tie.Start
-start c = c .before .before .before .before .before .before .before .before .before .before
+start c = c .before .before .before .before .before .before .before .before .before .before .before
 
 -- what is to be printed
 abbrev line : tie.After-answer2 → List ℕ
@@ -34,7 +34,7 @@ refused c =
 
 -- it is the list's line, where it is accepted
 answered : (c : tie.After-enum-told) → let d = c .before .before in
-    manyLine (start (called d) .args .question .now) (getD (called d .list .last .1 .1 .1 .1 .1 .1 .0) 0 0) ≡ line d
+    manyLine (start (called d) .args .question .now) (getD (called d .list .last .1 .1 .1 .1 .1 .1 .1 .0) 0 0) ≡ line d
 answered c =
     let l = called (c .before .before) in
     many-answered (start l .pre .0) (l .list .ensures) refl (c .enum-told .given .1)

@@ -21,7 +21,7 @@ called c = c .before .before .before .before
 
 -- where this call began, from that one
 abbrev start : tie.After-trail → tie.Start
-start c = c .before .before .before .before .before .before .before .before .before .before .before
+start c = c .before .before .before .before .before .before .before .before .before .before .before .before
 
 -- what is to be printed
 abbrev line : tie.After-rows2 → List ℕ
@@ -35,7 +35,7 @@ refused c =
 
 -- it is the pair's line, where it is traced
 answered : (c : tie.After-r) → let d = c .before .before in let s = start (called d) .args in
-    pairLine (s .x) (s .y) (getD (called d .trail .last .1 .1 .1 .1 .1 .1 .0) 0 0) (c .r .given .0 .0) ≡ line d
+    pairLine (s .x) (s .y) (getD (called d .trail .last .1 .1 .1 .1 .1 .1 .1 .0) 0 0) (c .r .given .0 .0) ≡ line d
 answered c =
     let t = called (c .before .before) in
     pair-answered (start t .pre .0) (t .trail .ensures) refl refl (c .r .given .1)

@@ -12,11 +12,11 @@ use Rattle.console.proofs.ask.questions.Statement.{statement}
 use Rattle.console.proofs.ask.questions.Tie as tie
 
 abbrev Inv-loop : tie.InvT-loop
-Inv-loop input at first parents label tour lift work₀ out₀ put beside₀ i₀ number₀ next₀ work out beside i number next =
+Inv-loop input at first parents label tour lift order work₀ out₀ put beside₀ i₀ number₀ next₀ work out beside i number next =
     AnsweredUpto input at first parents out₀ put out i number next × (length work ≡ workCells (length parents)) × (length beside ≡ 32)
 
 abbrev μ-loop : tie.MeasureT-loop
-μ-loop input at first parents label tour lift work₀ out₀ put beside₀ i₀ number₀ next₀ work out beside i number next =
+μ-loop input at first parents label tour lift order work₀ out₀ put beside₀ i₀ number₀ next₀ work out beside i number next =
     length input - i
 
 -- the question that was read, from its answer
@@ -33,11 +33,11 @@ turn c = c .before .before .before
 
 -- where the call began, from a turn
 abbrev start : tie.At-loop Inv-loop μ-loop → tie.Start Inv-loop μ-loop
-start c = c .before .before .before .before .before .before .before .before
+start c = c .before .before .before .before .before .before .before .before .before
 
 loop-holds : tie.Need-loop-holds Inv-loop μ-loop
 loop-holds c =
-    let s = c .before .before .before .before .before .before .before in
+    let s = c .before .before .before .before .before .before .before .before in
     (answered-none _ _ _ _ _ _ (s .pre .0 .0) (omega (arith, s .pre .1 .1)), s .pre .1 .0 .room, refl)
 
 slice-aggregate-question : tie.Need-slice-aggregate-question Inv-loop μ-loop
@@ -102,7 +102,7 @@ loop-again c =
     let q = asked a in
     let t = turn (reading q) in (
       question-answered (start t .pre .1 .1) (t .loop .inv .0) (reading q .question .ensures) (q .q .given .1) (a .answer .ensures),
-      a .answer .kept .1 .1 .1 .1 .1 .1 .0 ∙ t .loop .inv .1,
+      a .answer .kept .1 .1 .1 .1 .1 .1 .1 .0 ∙ t .loop .inv .1,
       q .before .before .beside2 .given,
     )
 
