@@ -1,12 +1,12 @@
 #!/usr/bin/env python3
-"""A plain model of document 01's tests, of its three tables and of its answers, written apart from the library: what `known` must print.
+"""A plain model of document 01's tests, of the four tables and of the answers, written apart from the library: what `known` must print.
 
     python3 tools/known.py | diff - crates/known/stdout
 
 It takes each definition as it stands, climbs part by part, scans block by block and shares nothing with crates/. It reads the small sheets
 from crates/known/stdin and makes the large ones. Of the tables of the large ones it says only what follows from the definitions: a sheet's own
 tables are accepted, and a changed cell is stale at its place. An answer is the carrier, by whatever route it is asked: no route's rule is here but
-that of lifts, for its trail.
+that of lifts, for its trail. A subtree is what the part carries, kept in the order of the order table (document 02, 2026-01).
 """
 import os
 import re
@@ -14,9 +14,12 @@ import re
 LIMIT = 16384
 NO_CELL = 65535
 NUMBERS = 640
-ROOM = [192, 480, 192, 128]
+BUFFERS = [1, 2, 3, 8, 4]  # the numbers of label, tour, lift, order and work, which stand in this order wherever they are lent
+TABLES = 4
+ROOM = [192, 480, 192, 32, 128]
 ROOM_OF_ANSWER = 256
 ROOM_OF_TRAIL = [2, 65]
+PRINTED_WHOLE = 32
 
 
 # The tests.
@@ -39,16 +42,16 @@ def log(n):
 
 
 def exact(n):
-    """The cells of label, tour, lift and work for n parts."""
-    return [6 * n, (2 * n - 1) * (log(2 * n - 1) + 2) + n, n * (log(n) + 1), 4 * n]
+    """The cells of label, tour, lift, order and work for n parts."""
+    return [6 * n, (2 * n - 1) * (log(2 * n - 1) + 2) + n, n * (log(n) + 1), n, 4 * n]
 
 
-def misfit(lent, wanted):
-    """The number of the lowest buffer that has not its exact length, or None; a buffer that is not lent is None."""
-    for buffer, (cells, right) in enumerate(zip(lent, wanted), 1):
-        if cells is not None and cells != right:
-            return buffer
-    return None
+def misfit(lent, wanted, further):
+    """The number of the lowest buffer that has not its exact length, or None; a buffer that is not lent is None; further is that of the others, or None."""
+    unfit = [buffer for buffer, cells, right in zip(BUFFERS, lent, wanted) if cells is not None and cells != right]
+    if further is not None:
+        unfit.append(further)
+    return min(unfit, default=None)
 
 
 def refusal(parents, lent, further=None):
@@ -58,7 +61,7 @@ def refusal(parents, lent, further=None):
         return 1, 0
     if n > LIMIT:
         return 2, 0
-    buffer = misfit(lent, exact(n)) or further
+    buffer = misfit(lent, exact(n), further)
     if buffer is not None:
         return 3, buffer
     for v, entry in enumerate(parents):
@@ -103,9 +106,8 @@ def unfit(kind, question, answer, trail):
     return next((buffer for buffer in sorted(fits) if not fits[buffer]), None)
 
 
-def asked(parents, tables, lent, further, question):
-    """The same of tests 1 to 10. Test 11 is never met: the root carries every part."""
-    why = stale(parents, tables, lent, further)
+def asked(parents, why, question):
+    """The same of tests 1 to 10, from that of tests 1 to 8. Test 11 is never met: the root carries every part."""
     if why is not None:
         return why
     if not question:
@@ -157,12 +159,12 @@ def rightmost_zeros(k):
 
 
 def own_tables(parents):
-    """The label, tour and lift tables of one rooted tree."""
+    """The label, tour, lift and order tables of one rooted tree."""
     parts = range(len(parents))
     root = next(v for v in parts if parents[v] == v)
     visits = walk(parents, root)
     level = [len(carriers(parents, v)) - 1 for v in parts]
-    return [label_table(parents, root, visits, level), tour_table(parts, visits, level), lift_table(parents)]
+    return [label_table(parents, root, visits, level), tour_table(parts, visits, level), lift_table(parents), order_table(parents)]
 
 
 def label_table(parents, root, visits, level):
@@ -200,6 +202,25 @@ def tour_table(parts, visits, level):
 def lift_table(parents):
     """Each part's carrier 2^k steps up, row by row."""
     return [climb(parents, v, 2 ** k) for k in range(log(len(parents)) + 1) for v in range(len(parents))]
+
+
+def order_table(parents):
+    """The parts in preorder, by their ways down from the root: a way stands before all that go on from it, and of two that part the one to the lower number."""
+    return sorted(range(len(parents)), key=lambda v: carriers(parents, v)[::-1])
+
+
+def walked_order(parents):
+    """The same by a walk that holds the parts still to come, for sheets on which all ways together are too long."""
+    into = {v: [] for v in range(len(parents))}
+    coming = []
+    for v, entry in enumerate(parents):
+        (coming if v == entry else into[entry]).append(v)
+    order = []
+    while coming:
+        v = coming.pop()
+        order.append(v)
+        coming += reversed(into[v])
+    return order
 
 
 # The answers.
@@ -247,6 +268,27 @@ def trail(parents, x, y):
     return rows
 
 
+def subtree(parents, v):
+    """The parts that v carries, as the order table has them, and where they begin in it: they stand there without a gap."""
+    order = order_table(parents)
+    carried = [u for u in order if v in carriers(parents, u)]
+    start = order.index(v)
+    assert order == walked_order(parents)
+    assert order[start:start + len(carried)] == carried
+    return start, carried
+
+
+def walked_subtree(order, parents, v):
+    """The same of a large sheet, by its order: a part is carried if its entry is, which stands before it."""
+    carried = {v}
+    for u in order:
+        if parents[u] in carried:
+            carried.add(u)
+    start = order.index(v)
+    assert set(order[start:start + len(carried)]) == carried
+    return start, order[start:start + len(carried)]
+
+
 # The lines.
 
 def listed(numbers):
@@ -257,18 +299,23 @@ def entries(parents):
     return listed(parents) or "no entries"
 
 
+def work_after(why):
+    """What a verdict leaves of work."""
+    return "work kept" if why is not None and why[0] <= 3 else "work zero"
+
+
 def verdict(why):
     """A verdict and what it leaves of work."""
     if why is None:
-        return ": accepted, work zero"
-    return f": refused {why[0]} at {why[1]}, work {'kept' if why[0] <= 3 else 'zero'}"
+        return f": accepted, {work_after(why)}"
+    return f": refused {why[0]} at {why[1]}, {work_after(why)}"
 
 
 def filled(parents, lent):
     """The tables after a build, end to end: the sheet's own, or the sevens that they held."""
     if refusal(parents, lent) is None:
         return sum(own_tables(parents), [])
-    return [7] * sum(lent[:3])
+    return [7] * sum(lent[:TABLES])
 
 
 def show_built(parents, lent):
@@ -276,7 +323,7 @@ def show_built(parents, lent):
     why = refusal(parents, lent)
     print(f"{entries(parents)} with {listed(lent)}{verdict(why)}, tables {'filled' if why is None else 'kept'}")
     if why is None:
-        for name, table in zip(["label", "tour", "lift"], own_tables(parents)):
+        for name, table in zip(["label", "tour", "lift", "order"], own_tables(parents)):
             print(f"  {name}: {listed(table)}")
 
 
@@ -288,6 +335,12 @@ def show_damaged(places, parents, lent):
     print(f"{entries(parents)} with {listed(lent)}, damaged at {listed(places) or 'no place'}{verdict(stale(parents, tables, lent))}")
 
 
+def show_given(order, parents, lent):
+    """A line of kind 'g'."""
+    tables = filled(parents, lent)[:sum(lent[:TABLES - 1])] + order
+    print(f"{entries(parents)} with {listed(lent)}, order {listed(order) or 'nothing'}{verdict(stale(parents, tables, lent))}")
+
+
 def show_other(first, second, lent):
     """A line of kind 'o'."""
     print(f"{entries(first)} / {entries(second)} with {listed(lent)}{verdict(stale(second, filled(first, lent), lent))}")
@@ -295,7 +348,7 @@ def show_other(first, second, lent):
 
 def show_sevens(parents, lent):
     """A line of kind 'c'."""
-    print(f"{entries(parents)} with {listed(lent)}, sevens{verdict(stale(parents, [7] * sum(lent[:3]), lent))}")
+    print(f"{entries(parents)} with {listed(lent)}, sevens{verdict(stale(parents, [7] * sum(lent[:TABLES]), lent))}")
 
 
 def answered(name, why, answer):
@@ -327,11 +380,28 @@ def show_list(parents, why, question):
     print(answered("list", why, [] if why is not None else [carrier(parents, question)]))
 
 
+def show_subtree(part, why, found):
+    """The lines of one part's subtree: where it stands, and the stretch itself; found is both, or None where the calls are refused."""
+    start, stretch = found or (0, [])
+    print(f"  locate {part}{verdict(why)}" + (f", start {start}, count {len(stretch)}" if why is None else ""))
+    parts = listed(stretch) or "nothing"
+    if len(stretch) > PRINTED_WHOLE:
+        parts = f"{len(stretch)} parts from {stretch[0]} to {stretch[-1]}"
+    print(f"  subtree {part}: {parts}, {work_after(why)}")
+
+
+def show_subtrees(parents, why, question):
+    """The lines of each part's subtree: a part is asked for by itself, at position 0."""
+    for part in question:
+        reason = asked(parents, why, [part])
+        show_subtree(part, reason, subtree(parents, part) if reason is None else None)
+
+
 SHOW = {"p": show_pairs, "r": show_trail, "m": show_list}
 
 
 def show_asked(kind, numbers, lent):
-    """Lines of the kinds 'p', 'r' and 'm'."""
+    """Lines of the kinds 'p', 'r', 'm' and 's'."""
     answer, room, count, changes = numbers[:4]
     rest = numbers[4:]
     assert count + changes <= len(rest)
@@ -341,32 +411,43 @@ def show_asked(kind, numbers, lent):
         tables[place] = (tables[place] + 1) % 65536
     damaged = f", damaged at {listed(places)}" if places else ""
     print(f"{entries(parents)} with {listed(lent + [answer, room])}{damaged}, asked {listed(question) or 'nothing'}")
+    if kind == "s":
+        show_subtrees(parents, stale(parents, tables, lent), question)
+        return
     if kind == "r":
         assert answer <= ROOM_OF_TRAIL[0] and room <= ROOM_OF_TRAIL[1]
     else:
         assert answer <= ROOM_OF_ANSWER
-    SHOW[kind](parents, asked(parents, tables, lent, unfit(kind, count, answer, room), question), question)
+    why = stale(parents, tables, lent, unfit(kind, count, answer, room))
+    SHOW[kind](parents, asked(parents, why, question), question)
+
+
+def only_work(cells):
+    """What is lent where there are no tables."""
+    return [None] * TABLES + [cells]
 
 
 def show_line(kind, numbers):
     """The lines that one line of stdin gives."""
     if kind == "w":
         cells, *parents = numbers
-        assert cells <= ROOM[3]
-        print(f"{entries(parents)} with {cells}{verdict(refusal(parents, [None, None, None, cells]))}")
+        assert cells <= ROOM[TABLES]
+        print(f"{entries(parents)} with {cells}{verdict(refusal(parents, only_work(cells)))}")
         return
-    lent, rest = numbers[:4], numbers[4:]
+    lent, rest = numbers[:TABLES + 1], numbers[TABLES + 1:]
     if any(cells > room for cells, room in zip(lent, ROOM)):
         print("too many cells")
     elif kind == "t":
         show_built(rest, lent)
     elif kind == "d":
         show_damaged(rest[1:rest[0] + 1], rest[rest[0] + 1:], lent)
+    elif kind == "g":
+        show_given(rest[:lent[TABLES - 1]], rest[lent[TABLES - 1]:], lent)
     elif kind == "o":
         show_other(rest[:len(rest) // 2], rest[len(rest) // 2:], lent)
     elif kind == "c":
         show_sevens(rest, lent)
-    elif kind in SHOW:
+    elif kind in SHOW or kind == "s":
         show_asked(kind, rest, lent)
 
 
@@ -375,7 +456,7 @@ def show_line(kind, numbers):
 def show(name, parents, cells=None):
     """The line of one sheet that is checked, with exact work where no cells are given."""
     work = 4 * len(parents) if cells is None else cells
-    print(f"{name}{verdict(refusal(parents, [None, None, None, work]))}")
+    print(f"{name}{verdict(refusal(parents, only_work(work)))}")
 
 
 def show_answers(parents, lent):
@@ -386,19 +467,25 @@ def show_answers(parents, lent):
         ("r", [16383, 0]),
         ("m", [13885, 11371, 10066, 12290]),
     ]
+    why = stale(parents, None, lent)
     for kind, question in questions:
-        SHOW[kind](parents, asked(parents, None, lent, None, question), question)
+        SHOW[kind](parents, asked(parents, why, question), question)
+    order = walked_order(parents) if why is None else None
+    for part in [0, 3, 8192, 16383, 16384, 2 ** 64 - 1]:
+        reason = asked(parents, why, [part])
+        show_subtree(part, reason, walked_subtree(order, parents, part) if reason is None else None)
 
 
 def show_tables(name, parents):
-    """The lines of a large sheet whose tables are built, compared, asked, and compared with two cells changed."""
+    """The lines of a large sheet whose tables are built, compared, asked, and compared with one to three cells changed."""
     lent = exact(len(parents))
     why = refusal(parents, lent)
     assert why is None
     print(f"{name}, tables{verdict(why)}, tables filled")
     print(f"  compared{verdict(None)}")
     show_answers(parents, lent)
-    print(f"  last cell changed{verdict((8, sum(lent[:3]) - 1))}")
+    print(f"  last cell changed{verdict((8, sum(lent[:TABLES]) - 1))}")
+    print(f"  last cell of lift changed too{verdict((8, sum(lent[:TABLES - 1]) - 1))}")
     print(f"  first cell changed too{verdict((8, 0))}")
 
 

@@ -1,12 +1,14 @@
-// Asking for carriers. Behind the cells of label, tour, lift and work (lend.rt) a line has how many cells of answer and of trail are lent, how
-// many numbers the question has, at how many places a cell is changed, and then the question, the places and the entries, as in
-// "pairs 42 72 21 28 1 0 2 0: 3 4 / 0 0 0 1 1 2 5". The sheet's tables are built, the cells at the places are changed, and the question is asked:
-// 'p' asks for pairs by each route, 'r' for the rows of a pair's trail, 'm' for the carrier of many parts. Before a call all it may write holds sevens.
+// Asking for carriers and subtrees. Behind the cells of label, tour, lift, order and work (lend.rt) a line has how many cells of answer and of trail
+// are lent, how many numbers the question has, at how many places a cell is changed, and then the question, the places and the entries, as in
+// "pairs 42 72 21 7 28 1 0 2 0: 3 4 / 0 0 0 1 1 2 5". The sheet's tables are built, the cells at the places are changed, and the question is asked:
+// 'p' asks for pairs by each route, 'r' for the rows of a pair's trail, 'm' for the carrier of many parts, 's' for the subtree of each part. Before a
+// call all it may write holds sevens.
 
 use crate::damage;
 use crate::lend;
 use crate::print;
 use crate::shape;
+use crate::subtree;
 use crate::trail;
 use tree::Outcome;
 
@@ -17,6 +19,7 @@ pub fn run(
     label: &mut [u16],
     tour: &mut [u16],
     lift: &mut [u16],
+    order: &mut [u16],
     work: &mut [u16],
 ) {
     if numbers.len() < 4 {
@@ -34,10 +37,8 @@ pub fn run(
     let question = &numbers[4..mid];
     let places = &numbers[mid..end];
     let parents = &numbers[end..];
-    print::entries(parents);
-    print::lent(label.len(), tour.len(), lift.len(), work.len());
+    prepare(parents, places, label, tour, lift, order, work);
     print::asked(cells, rows, places, question);
-    prepare(parents, places, label, tour, lift, work);
     ask_kind(
         kind,
         cells,
@@ -47,21 +48,25 @@ pub fn run(
         label,
         tour,
         lift,
+        order,
         work,
     );
 }
 
-// Builds the tables of a sheet, and changes the cells at some places.
+// Prints a sheet and what is lent, builds the sheet's tables, and changes the cells at some places.
 fn prepare(
     parents: &[u16],
     places: &[u16],
     label: &mut [u16],
     tour: &mut [u16],
     lift: &mut [u16],
+    order: &mut [u16],
     work: &mut [u16],
 ) {
-    tables::build(parents, label, tour, lift, work);
-    damage::all(places, label, tour, lift);
+    print::entries(parents);
+    print::lent(label.len(), tour.len(), lift.len(), order.len(), work.len());
+    tables::build(parents, label, tour, lift, order, work);
+    damage::all(places, label, tour, lift, order);
 }
 
 // Asks what the kind of a line says.
@@ -74,28 +79,51 @@ fn ask_kind(
     label: &[u16],
     tour: &[u16],
     lift: &[u16],
+    order: &[u16],
     work: &mut [u16],
 ) {
     match kind {
-        b'p' => pairs(cells, question, parents, label, tour, lift, work),
-        b'r' => trail::ask(cells, rows, question, parents, label, tour, lift, work),
-        _ => ask(b'm', cells, question, parents, label, tour, lift, work),
+        b'p' => pairs(cells, question, parents, label, tour, lift, order, work),
+        b'r' => trail::ask(
+            cells,
+            rows,
+            question,
+            parents,
+            label,
+            tour,
+            lift,
+            order,
+            work,
+        ),
+        b's' => subtree::each(question, parents, label, tour, lift, order, work),
+        _ => ask(
+            b'm',
+            cells,
+            question,
+            parents,
+            label,
+            tour,
+            lift,
+            order,
+            work,
+        ),
     }
 }
 
 // Asks for pairs by each of the three routes.
 pub fn pairs(
     cells: usize,
-    question: &[u16],
+    asked: &[u16],
     parents: &[u16],
     label: &[u16],
     tour: &[u16],
     lift: &[u16],
+    order: &[u16],
     work: &mut [u16],
 ) {
-    ask(b'l', cells, question, parents, label, tour, lift, work);
-    ask(b't', cells, question, parents, label, tour, lift, work);
-    ask(b'f', cells, question, parents, label, tour, lift, work);
+    ask(b'l', cells, asked, parents, label, tour, lift, order, work);
+    ask(b't', cells, asked, parents, label, tour, lift, order, work);
+    ask(b'f', cells, asked, parents, label, tour, lift, order, work);
 }
 
 // Asks one call, with an answer of so many cells.
@@ -107,6 +135,7 @@ pub fn ask(
     label: &[u16],
     tour: &[u16],
     lift: &[u16],
+    order: &[u16],
     work: &mut [u16],
 ) {
     let mut answer = [7u16; 256];
@@ -121,6 +150,7 @@ pub fn ask(
         label,
         tour,
         lift,
+        order,
         work,
         &mut answer[0..cells],
     );
@@ -134,11 +164,22 @@ fn answer_in(
     label: &[u16],
     tour: &[u16],
     lift: &[u16],
+    order: &[u16],
     work: &mut [u16],
     answer: &mut [u16],
 ) {
     shape::fill(work, 7);
-    let r = call(way, question, parents, label, tour, lift, work, answer);
+    let r = call(
+        way,
+        question,
+        parents,
+        label,
+        tour,
+        lift,
+        order,
+        work,
+        answer,
+    );
     print::way(way);
     print::answered(r, work, answer);
     print::text(b"\n");
@@ -152,13 +193,14 @@ fn call(
     label: &[u16],
     tour: &[u16],
     lift: &[u16],
+    order: &[u16],
     work: &mut [u16],
     answer: &mut [u16],
 ) -> Outcome {
     match way {
-        b'l' => routes::pairs_by_labels(parents, label, tour, lift, work, question, answer),
-        b't' => routes::pairs_by_tour(parents, label, tour, lift, work, question, answer),
-        b'f' => routes::pairs_by_lifts(parents, label, tour, lift, work, question, answer),
-        _ => routes::list(parents, label, tour, lift, work, question, answer),
+        b'l' => routes::pairs_by_labels(parents, label, tour, lift, order, work, question, answer),
+        b't' => routes::pairs_by_tour(parents, label, tour, lift, order, work, question, answer),
+        b'f' => routes::pairs_by_lifts(parents, label, tour, lift, order, work, question, answer),
+        _ => routes::list(parents, label, tour, lift, order, work, question, answer),
     }
 }

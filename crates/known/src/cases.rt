@@ -1,6 +1,6 @@
 // Sheets that are written down, a line each. Its first letter says what is done with it: of a line "work 12: 5 1 2" the sheet is checked, with
-// the cells of work that are lent before the entries; lend.rt has the kinds 't', 'd', 'o' and 'c', ask.rt the kinds 'p', 'r' and 'm'; any other
-// line, as one that begins with '#', is a comment. Whatever is no digit only parts the numbers.
+// the cells of work that are lent before the entries; lend.rt has the kinds 't', 'd', 'g', 'o' and 'c', ask.rt the kinds 'p', 'r', 'm' and 's'; any
+// other line, as one that begins with '#', is a comment. Whatever is no digit only parts the numbers.
 
 use crate::lend;
 use crate::print;
@@ -49,7 +49,8 @@ fn run_line(line: &[u8]) {
 fn run_kind(kind: u8, numbers: &[u16]) {
     match kind {
         b'w' => run_sheet(numbers),
-        b't' | b'd' | b'o' | b'c' | b'p' | b'r' | b'm' => lend::run(kind, numbers),
+        b't' | b'd' | b'g' | b'o' | b'c' => lend::run(kind, numbers),
+        b'p' | b'r' | b'm' | b's' => lend::run(kind, numbers),
         _ => {}
     }
 }

@@ -1,16 +1,22 @@
 // Tables that are damaged: a cell is changed to the next number.
 
-// Changes the cells at some places, counted from 0 over the three tables end to end.
-pub fn all(places: &[u16], label: &mut [u16], tour: &mut [u16], lift: &mut [u16]) {
+// Changes the cells at some places, counted from 0 over the four tables end to end.
+pub fn all(
+    places: &[u16],
+    label: &mut [u16],
+    tour: &mut [u16],
+    lift: &mut [u16],
+    order: &mut [u16],
+) {
     let mut i = 0;
     while i < places.len() {
-        one(places[i], label, tour, lift);
+        one(places[i], label, tour, lift, order);
         i += 1;
     }
 }
 
 // Changes the cell at one place, if there is that cell.
-fn one(place: u16, label: &mut [u16], tour: &mut [u16], lift: &mut [u16]) {
+fn one(place: u16, label: &mut [u16], tour: &mut [u16], lift: &mut [u16], order: &mut [u16]) {
     let at = place as usize;
     if at < label.len() {
         cell(label, at);
@@ -21,7 +27,12 @@ fn one(place: u16, label: &mut [u16], tour: &mut [u16], lift: &mut [u16]) {
         cell(tour, past);
         return;
     }
-    cell(lift, past - tour.len());
+    let rest = past - tour.len();
+    if rest < lift.len() {
+        cell(lift, rest);
+        return;
+    }
+    cell(order, rest - lift.len());
 }
 
 // Changes one cell of a table, if there is that cell.

@@ -6,6 +6,7 @@ use crate::lend;
 use crate::print;
 use crate::run;
 use crate::shape;
+use crate::subtree;
 use crate::trail;
 ghost use mathlib.Core.Path.{_≡_};
 ghost use lib.ListN.{length};
@@ -43,6 +44,13 @@ fn lift() -> [u16; 245760]
     ensures { λ r. ⌜ 245760 ≡ length r ⌝ }
 {
     [7; 245760]
+}
+
+// The order table of 16,384 parts, all sevens.
+fn order() -> [u16; 16384]
+    ensures { λ r. ⌜ 16384 ≡ length r ⌝ }
+{
+    [7; 16384]
 }
 
 // The entries of one part more.
@@ -95,12 +103,13 @@ pub fn size_of_tables() {
     let mut label = [7u16; 6];
     let mut tour = [7u16; 3];
     let mut lift = [7u16; 1];
+    let mut order = [7u16; 1];
     let mut w = [7u16; 4];
     print::text(b"16385 entries, tables");
-    lend::built(&s, &mut label, &mut tour, &mut lift, &mut w);
+    lend::built(&s, &mut label, &mut tour, &mut lift, &mut order, &mut w);
     print::text(b"16385 entries, compared");
-    lend::compare(&s, &label, &tour, &lift, &mut w);
-    answers(&s, &label, &tour, &lift, &mut w);
+    lend::compare(&s, &label, &tour, &lift, &order, &mut w);
+    answers(&s, &label, &tour, &lift, &order, &mut w);
 }
 
 // Tests 4 to 6, at the last part.
@@ -158,27 +167,55 @@ fn lend_tables(parents: &[u16]) {
     let mut label = label();
     let mut tour = tour();
     let mut lift = lift();
+    let mut order = order();
     let mut w = work();
-    run_tables(parents, &mut label, &mut tour, &mut lift, &mut w);
+    run_tables(
+        parents,
+        &mut label,
+        &mut tour,
+        &mut lift,
+        &mut order,
+        &mut w,
+    );
 }
 
-// Builds the tables of a sheet, compares them with it and asks.
+// Builds the tables of a sheet, and tries them.
 fn run_tables(
     parents: &[u16],
     label: &mut [u16],
     tour: &mut [u16],
     lift: &mut [u16],
+    order: &mut [u16],
     work: &mut [u16],
 ) {
     print::text(b", tables");
-    lend::built(parents, label, tour, lift, work);
-    compare(b"  compared", parents, label, tour, lift, work);
-    answers(parents, label, tour, lift, work);
-    run_damaged(parents, label, tour, lift, work);
+    lend::built(parents, label, tour, lift, order, work);
+    run_built(parents, label, tour, lift, order, work);
 }
 
-// Asks for nine pairs by each route, for two trails, and for a list.
-fn answers(parents: &[u16], label: &[u16], tour: &[u16], lift: &[u16], work: &mut [u16]) {
+// Compares the tables of a sheet with it, asks, and compares them damaged.
+fn run_built(
+    parents: &[u16],
+    label: &mut [u16],
+    tour: &[u16],
+    lift: &mut [u16],
+    order: &mut [u16],
+    work: &mut [u16],
+) {
+    compare(b"  compared", parents, label, tour, lift, order, work);
+    answers(parents, label, tour, lift, order, work);
+    run_damaged(parents, label, tour, lift, order, work);
+}
+
+// Asks for nine pairs by each route, for two trails, for a list, and for subtrees.
+fn answers(
+    parents: &[u16],
+    label: &[u16],
+    tour: &[u16],
+    lift: &[u16],
+    order: &[u16],
+    work: &mut [u16],
+) {
     let pairs = [
         0u16,
         16383,
@@ -202,31 +239,43 @@ fn answers(parents: &[u16], label: &[u16], tour: &[u16], lift: &[u16], work: &mu
     let apart = [12290u16, 11371];
     let above = [16383u16, 0];
     let many = [13885u16, 11371, 10066, 12290];
-    ask::pairs(9, &pairs, parents, label, tour, lift, work);
-    trail::ask(1, 64, &apart, parents, label, tour, lift, work);
-    trail::ask(1, 64, &above, parents, label, tour, lift, work);
-    ask::ask(b'm', 1, &many, parents, label, tour, lift, work);
+    ask::pairs(9, &pairs, parents, label, tour, lift, order, work);
+    trail::ask(1, 64, &apart, parents, label, tour, lift, order, work);
+    trail::ask(1, 64, &above, parents, label, tour, lift, order, work);
+    ask::ask(b'm', 1, &many, parents, label, tour, lift, order, work);
+    subtree::large(parents, label, tour, lift, order, work);
 }
 
-// Compares a sheet's tables with it, the last cell changed, and then the first cell too.
+// Compares a sheet's tables with it, the last cell changed, then the last of the lift table too, and then the first cell too.
 fn run_damaged(
     parents: &[u16],
     label: &mut [u16],
     tour: &[u16],
     lift: &mut [u16],
+    order: &mut [u16],
     work: &mut [u16],
 ) {
+    let name = b"  last cell changed";
+    damage::last(order);
+    compare(name, parents, label, tour, lift, order, work);
+    run_damaged_before(parents, label, tour, lift, order, work);
+}
+
+// The same of a damaged order table, the last cell of the lift table changed too, and then the first cell too.
+fn run_damaged_before(
+    parents: &[u16],
+    label: &mut [u16],
+    tour: &[u16],
+    lift: &mut [u16],
+    order: &[u16],
+    work: &mut [u16],
+) {
+    let last = b"  last cell of lift changed too";
+    let first = b"  first cell changed too";
     damage::last(lift);
-    compare(b"  last cell changed", parents, label, tour, lift, work);
+    compare(last, parents, label, tour, lift, order, work);
     damage::cell(label, 0);
-    compare(
-        b"  first cell changed too",
-        parents,
-        label,
-        tour,
-        lift,
-        work,
-    );
+    compare(first, parents, label, tour, lift, order, work);
 }
 
 // Compares tables with a sheet, and prints a line.
@@ -236,8 +285,9 @@ fn compare(
     label: &[u16],
     tour: &[u16],
     lift: &[u16],
+    order: &[u16],
     work: &mut [u16],
 ) {
     print::text(name);
-    lend::compare(parents, label, tour, lift, work);
+    lend::compare(parents, label, tour, lift, order, work);
 }

@@ -1,6 +1,6 @@
 // The known sheets that are run (document 01, "Known sheets", and more of our own). Standard input has the small ones, a line each; the large
-// ones are made here. Each is checked, or its tables are built or compared with it, or it is asked for carriers, and a line says the verdict
-// and what became of work, which held sevens before.
+// ones are made here. Each is checked, or its tables are built or compared with it, or it is asked for carriers or subtrees, and a line says
+// the verdict and what became of work, which held sevens before.
 
 mod ask;
 mod cases;
@@ -9,6 +9,7 @@ mod large;
 mod lend;
 mod print;
 mod shape;
+mod subtree;
 mod trail;
 
 // Checks one sheet and prints the rest of its line.

@@ -38,14 +38,16 @@ pub fn entries(parents: &[u16]) {
     list(parents);
 }
 
-// How many cells of the four buffers are lent.
-pub fn lent(label: usize, tour: usize, lift: usize, work: usize) {
+// How many cells of the tables and of work are lent.
+pub fn lent(label: usize, tour: usize, lift: usize, order: usize, work: usize) {
     text(b" with ");
     number(label as u64);
     text(b" ");
     number(tour as u64);
     text(b" ");
     number(lift as u64);
+    text(b" ");
+    number(order as u64);
     text(b" ");
     number(work as u64);
 }
@@ -74,7 +76,7 @@ pub fn asked(answer: usize, trail: usize, places: &[u16], question: &[u16]) {
 }
 
 // The numbers of a list, or that there are none.
-fn some(cells: &[u16]) {
+pub fn some(cells: &[u16]) {
     if cells.len() == 0 {
         text(b"nothing");
     }
@@ -109,6 +111,30 @@ pub fn kept(cells: &[u16]) {
     } else {
         text(b"changed");
     }
+}
+
+// Where a subtree stands in the order table.
+pub fn located(start: usize, count: usize) {
+    text(b", start ");
+    number(start as u64);
+    text(b", count ");
+    number(count as u64);
+}
+
+// The parts of a stretch: all of up to 32, or how many there are, the first and the last.
+pub fn parts(stretch: &[u16]) {
+    let count = stretch.len();
+    if count <= 32 {
+        text(b" ");
+        some(stretch);
+        return;
+    }
+    text(b" ");
+    number(count as u64);
+    text(b" parts from ");
+    cell(0, stretch[0]);
+    text(b" to ");
+    cell(0, stretch[count - 1]);
 }
 
 // The count of a trail's lifts, its rows, and the cells after them.

@@ -16,6 +16,15 @@ pub fn put(cells: &mut [u16], at: usize, x: u16) {
     }
 }
 
+// Puts the cells of a list, as far as there is room.
+pub fn copy(from: &[u16], cells: &mut [u16]) {
+    let mut i = 0;
+    while i < from.len() {
+        put(cells, i, from[i]);
+        i += 1;
+    }
+}
+
 // Each part is bolted into the part before it, part 0 into itself.
 pub fn chain_down(parents: &mut [u16]) {
     let mut v = 0;

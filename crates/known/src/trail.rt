@@ -14,6 +14,7 @@ pub fn ask(
     label: &[u16],
     tour: &[u16],
     lift: &[u16],
+    order: &[u16],
     work: &mut [u16],
 ) {
     let mut answer = [7u16; 2];
@@ -28,6 +29,7 @@ pub fn ask(
         label,
         tour,
         lift,
+        order,
         work,
         &mut answer[0..cells],
         &mut trail[0..rows],
@@ -41,12 +43,23 @@ fn answer_in(
     label: &[u16],
     tour: &[u16],
     lift: &[u16],
+    order: &[u16],
     work: &mut [u16],
     answer: &mut [u16],
     trail: &mut [u16],
 ) {
     shape::fill(work, 7);
-    let r = routes::trail(parents, label, tour, lift, work, question, answer, trail);
+    let r = routes::trail(
+        parents,
+        label,
+        tour,
+        lift,
+        order,
+        work,
+        question,
+        answer,
+        trail,
+    );
     traced(r, work, answer, trail);
 }
 

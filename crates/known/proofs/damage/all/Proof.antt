@@ -8,10 +8,11 @@ use Rattle.known.proofs.damage.all.Statement.{statement}
 use Rattle.known.proofs.damage.all.Tie as tie
 
 abbrev Inv-loop : tie.InvT-loop
-Inv-loop places label₀ tour₀ lift₀ i₀ label tour lift i = (i ≤ length places) × (length label ≡ length label₀) × (length tour ≡ length tour₀) × (length lift ≡ length lift₀)
+Inv-loop places label₀ tour₀ lift₀ order₀ i₀ label tour lift order i =
+    (i ≤ length places) × (length label ≡ length label₀) × (length tour ≡ length tour₀) × (length lift ≡ length lift₀) × (length order ≡ length order₀)
 
 abbrev μ-loop : tie.MeasureT-loop
-μ-loop places label₀ tour₀ lift₀ i₀ label tour lift i = length places - i
+μ-loop places label₀ tour₀ lift₀ order₀ i₀ label tour lift order i = length places - i
 
 loop-holds : tie.Need-loop-holds Inv-loop μ-loop
 loop-holds c = search needs
@@ -43,6 +44,9 @@ same-length-2 c = search needs
 same-length-3 : tie.Need-same-length-3 Inv-loop μ-loop
 same-length-3 c = search needs
 
+same-length-4 : tie.Need-same-length-4 Inv-loop μ-loop
+same-length-4 c = search needs
+
 returns : tie.Need-returns Inv-loop μ-loop
 returns c = search needs
 
@@ -62,4 +66,5 @@ all-spec =
     same-length
     same-length-2
     same-length-3
+    same-length-4
     returns)

@@ -40,6 +40,12 @@ shared-slice-read-wide-4 c = search needs
 wide-requires-4 : tie.Need-wide-requires-4
 wide-requires-4 c κs = search needs
 
+shared-slice-read-wide-5 : tie.Need-shared-slice-read-wide-5
+shared-slice-read-wide-5 c = search needs
+
+wide-requires-5 : tie.Need-wide-requires-5
+wide-requires-5 c κs = search needs
+
 slice-aggregate-text-2 : tie.Need-slice-aggregate-text-2
 slice-aggregate-text-2 c = search needs
 
@@ -62,25 +68,31 @@ slice-relend-prefix-run-kind : tie.Need-slice-relend-prefix-run-kind
 slice-relend-prefix-run-kind c = search needs
 
 slice-aggregate-run-kind : tie.Need-slice-aggregate-run-kind
-slice-aggregate-run-kind c = sym (length-take-le _ _ (c .before .before .before .before .before .if2 .left))
+slice-aggregate-run-kind c = sym (length-take-le _ _ (c .before .before .before .before .before .before .if2 .left))
 
 slice-relend-prefix-run-kind-2 : tie.Need-slice-relend-prefix-run-kind-2
 slice-relend-prefix-run-kind-2 c = search needs
 
 slice-aggregate-run-kind-2 : tie.Need-slice-aggregate-run-kind-2
-slice-aggregate-run-kind-2 c = sym (length-take-le _ _ (ltb-false _ _ (c .before .before .before .before .before .if3 .left)))
+slice-aggregate-run-kind-2 c = sym (length-take-le _ _ (ltb-false _ _ (c .before .before .before .before .before .before .if3 .left)))
 
 slice-relend-prefix-run-kind-3 : tie.Need-slice-relend-prefix-run-kind-3
 slice-relend-prefix-run-kind-3 c = search needs
 
 slice-aggregate-run-kind-3 : tie.Need-slice-aggregate-run-kind-3
-slice-aggregate-run-kind-3 c = sym (length-take-le _ _ (ltb-false _ _ (c .before .before .before .before .before .if4 .left)))
+slice-aggregate-run-kind-3 c = sym (length-take-le _ _ (ltb-false _ _ (c .before .before .before .before .before .before .if4 .left)))
 
 slice-relend-prefix-run-kind-4 : tie.Need-slice-relend-prefix-run-kind-4
 slice-relend-prefix-run-kind-4 c = search needs
 
 slice-aggregate-run-kind-4 : tie.Need-slice-aggregate-run-kind-4
-slice-aggregate-run-kind-4 c = sym (length-take-le _ _ (ltb-false _ _ (c .before .before .before .before .before .if5 .left)))
+slice-aggregate-run-kind-4 c = sym (length-take-le _ _ (ltb-false _ _ (c .before .before .before .before .before .before .if5 .left)))
+
+slice-relend-prefix-run-kind-5 : tie.Need-slice-relend-prefix-run-kind-5
+slice-relend-prefix-run-kind-5 c = search needs
+
+slice-aggregate-run-kind-5 : tie.Need-slice-aggregate-run-kind-5
+slice-aggregate-run-kind-5 c = sym (length-take-le _ _ (ltb-false _ _ (c .before .before .before .before .before .before .if6 .left)))
 
 run-kind-requires : tie.Need-run-kind-requires
 run-kind-requires c κs = search needs
@@ -96,6 +108,9 @@ same-length-3 c = search needs
 
 same-length-4 : tie.Need-same-length-4
 same-length-4 c = search needs
+
+same-length-5 : tie.Need-same-length-5
+same-length-5 c = search needs
 
 returns-3 : tie.Need-returns-3
 returns-3 c = search needs
@@ -115,6 +130,8 @@ lend-spec =
     wide-requires-3
     shared-slice-read-wide-4
     wide-requires-4
+    shared-slice-read-wide-5
+    wide-requires-5
     slice-aggregate-text-2
     text-requires-2
     returns-2
@@ -129,9 +146,12 @@ lend-spec =
     slice-aggregate-run-kind-3
     slice-relend-prefix-run-kind-4
     slice-aggregate-run-kind-4
+    slice-relend-prefix-run-kind-5
+    slice-aggregate-run-kind-5
     run-kind-requires
     same-length
     same-length-2
     same-length-3
     same-length-4
+    same-length-5
     returns-3)

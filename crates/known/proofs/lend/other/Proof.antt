@@ -11,8 +11,8 @@ use Rattle.known.proofs.lend.other.Tie as tie
 
 slice-aggregate-first : tie.Need-slice-aggregate-first
 slice-aggregate-first c =
-    let c6 = c .before .before .before .before .before .before in
-    let h : length (c6 .args .numbers .now) / 2 ≤ length (c6 .args .numbers .now) = omega arith in sym (length-take-le _ _ h)
+    let c7 = c .before .before .before .before .before .before .before in
+    let h : length (c7 .args .numbers .now) / 2 ≤ length (c7 .args .numbers .now) = omega arith in sym (length-take-le _ _ h)
 
 mul-second : tie.Need-mul-second
 mul-second c = search needs
@@ -59,6 +59,9 @@ same-length-3 c = search needs
 same-length-4 : tie.Need-same-length-4
 same-length-4 c = search needs
 
+same-length-5 : tie.Need-same-length-5
+same-length-5 c = search needs
+
 returns : tie.Need-returns
 returns c = search needs
 
@@ -82,4 +85,5 @@ other-spec =
     same-length-2
     same-length-3
     same-length-4
+    same-length-5
     returns)
