@@ -11,8 +11,8 @@ LARGE = 16384
 # Each shape with its parts in rising order and with their numbers permuted, at each size; and two large sheets, a chain and a random one.
 SHEETS = [n for n in SIZES for _ in SHAPES for _ in ("rising", "permuted")] + [LARGE, LARGE]
 
-# The buffers of each call whose length is exact, by their numbers: 1 label, 2 tour, 3 lift, 4 work, 5 question, 6 answer, 7 trail.
-TABLES = {1, 2, 3}
+# The buffers of each call whose length is exact, by their numbers: 1 label, 2 tour, 3 lift, 4 work, 5 question, 6 answer, 7 trail, 8 order.
+TABLES = {1, 2, 3, 8}
 PAIRS = TABLES | {4, 5, 6}
 EXACT = {
     "check": {4},
@@ -36,11 +36,12 @@ def log(n):
 
 
 def cells(n):
-    """The cells of the three tables of n parts."""
+    """The cells of the four tables of n parts."""
     label = 6 * n
     tour = (2 * n - 1) * (log(2 * n - 1) + 2) + n
     lift = n * (log(n) + 1)
-    return label + tour + lift
+    order = n
+    return label + tour + lift + order
 
 
 def pairs(n):
@@ -64,7 +65,7 @@ def refusals(n):
     entry_off_the_sheet_and_two = 2 * CALLS
     no_root_or_two_or_a_part_in_one_that_it_carries = 3 * CALLS if n > 1 else 0
     two_parts_in_each_other = CALLS if n > 2 else 0
-    cell_of_each_table_and_two_cells = 4 * READING
+    cell_of_each_table_and_two_cells = (len(TABLES) + 1) * READING
     empty_question = ASKING
     number_that_is_no_part_and_two = 2 * ASKING
     unfit_with_an_entry_off_the_sheet = LENT_TABLES

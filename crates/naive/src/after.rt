@@ -35,8 +35,8 @@ pub fn call(
 
 // Holds the number and the place of a refusal.
 pub fn same(call: usize, want: Said, came: Said, log: &mut [usize]) {
-    agree(call, 8, 0, want.number, came.number, log);
-    agree(call, 9, 0, want.place, came.place, log);
+    agree(call, 9, 0, want.number, came.number, log);
+    agree(call, 10, 0, want.place, came.place, log);
 }
 
 // Work is all zero, or as it was after refusals 1 to 3.

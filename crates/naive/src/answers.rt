@@ -61,7 +61,7 @@ pub fn trail(
     let x = get(question, 0);
     let y = get(question, 1);
     let end = plain::trail(n, x, y, sheet, &mut own);
-    agree(6, 10, 0, end.lifts, lifts, log);
+    agree(6, 11, 0, end.lifts, lifts, log);
     agree(6, 6, 0, end.x, get(answer, 0), log);
     same_rows(rows, &own, log);
     formula(n, lifts, x, y, sheet, answer, log);
@@ -91,7 +91,7 @@ fn formula(
     let a = level(sheet, n, x);
     let b = level(sheet, n, y);
     let c = level(sheet, n, met);
-    agree(6, 11, 0, plain::lifts(a, b, c), lifts, log);
+    agree(6, 12, 0, plain::lifts(a, b, c), lifts, log);
 }
 
 // The carrier of a list.

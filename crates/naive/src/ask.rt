@@ -65,7 +65,7 @@ pub fn list_parts(cells: usize, n: usize, question: &mut [u16], log: &mut [usize
 // Asks pairs by each of the three routes.
 pub fn pairs(n: usize, tree: Said, sheet: &[u16], own: &[u16], log: &mut [usize]) {
     let mut question = large::question();
-    let mut lent = [0usize; 8];
+    let mut lent = [0usize; 9];
     let count = pairs_of(n);
     fit::all(3, n, count, &mut lent);
     list_pairs(times(2, count), n, &mut question, log);
@@ -87,7 +87,7 @@ pub fn trails(n: usize, tree: Said, sheet: &[u16], own: &[u16], log: &mut [usize
 // Asks the trail of a random pair.
 fn trail(n: usize, tree: Said, sheet: &[u16], own: &[u16], log: &mut [usize]) {
     let mut question = [0u16; 2];
-    let mut lent = [0usize; 8];
+    let mut lent = [0usize; 9];
     fit::all(6, n, 1, &mut lent);
     list_parts(2, n, &mut question, log);
     hold(6, n, tree, fit::NONE, sheet, own, &question, &lent, log);

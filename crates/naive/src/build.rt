@@ -25,6 +25,7 @@ pub fn hold(n: usize, want: Said, sheet: &[u16], own: &[u16], lent: &[usize], lo
     let mut label = large::label();
     let mut tour = large::tour();
     let mut lift = large::lift();
+    let mut order = large::order();
     in_buffers(
         want,
         sheet,
@@ -33,6 +34,7 @@ pub fn hold(n: usize, want: Said, sheet: &[u16], own: &[u16], lent: &[usize], lo
         &mut label,
         &mut tour,
         &mut lift,
+        &mut order,
         log,
     );
 }
@@ -42,6 +44,7 @@ fn small(want: Said, sheet: &[u16], own: &[u16], lent: &[usize], log: &mut [usiz
     let mut label = large::small_label();
     let mut tour = large::small_tour();
     let mut lift = large::small_lift();
+    let mut order = large::small_order();
     in_buffers(
         want,
         sheet,
@@ -50,6 +53,7 @@ fn small(want: Said, sheet: &[u16], own: &[u16], lent: &[usize], log: &mut [usiz
         &mut label,
         &mut tour,
         &mut lift,
+        &mut order,
         log,
     );
 }
@@ -63,18 +67,26 @@ fn in_buffers(
     label: &mut [u16],
     tour: &mut [u16],
     lift: &mut [u16],
+    order: &mut [u16],
     log: &mut [usize],
 ) {
-    before(lent, label, tour, lift);
-    built(want, sheet, lent, label, tour, lift, log);
-    after(want.number, own, lent, label, tour, lift, log);
+    before(lent, label, tour, lift, order);
+    built(want, sheet, lent, label, tour, lift, order, log);
+    after(want.number, own, lent, label, tour, lift, order, log);
 }
 
 // Fills the tables with junk.
-fn before(lent: &[usize], label: &mut [u16], tour: &mut [u16], lift: &mut [u16]) {
+fn before(
+    lent: &[usize],
+    label: &mut [u16],
+    tour: &mut [u16],
+    lift: &mut [u16],
+    order: &mut [u16],
+) {
     fill_junk(label, number(lent, 1));
     fill_junk(tour, number(lent, 2));
     fill_junk(lift, number(lent, 3));
+    fill_junk(order, number(lent, 8));
 }
 
 // Holds the tables after a build that was to be refused with `refusal`, or accepted if that is 0.
@@ -85,13 +97,14 @@ fn after(
     label: &[u16],
     tour: &[u16],
     lift: &[u16],
+    order: &[u16],
     log: &mut [usize],
 ) {
     if refusal != 0 {
-        refused(label, tour, lift, lent, log);
+        refused(label, tour, lift, order, lent, log);
         return;
     }
-    accepted(label, tour, lift, own, lent, log);
+    accepted(label, tour, lift, order, own, lent, log);
 }
 
 // Makes the call, and holds its number, its place and work.
@@ -102,11 +115,12 @@ fn built(
     label: &mut [u16],
     tour: &mut [u16],
     lift: &mut [u16],
+    order: &mut [u16],
     log: &mut [usize],
 ) {
     let mut work = large::work();
     fill_junk(&mut work, number(lent, 4));
-    let came = lend(sheet, lent, label, tour, lift, &mut work);
+    let came = lend(sheet, lent, label, tour, lift, order, &mut work);
     same(1, want, came, log);
     held_work(1, want.number, &work, lent, log);
 }
@@ -118,27 +132,38 @@ fn lend(
     label: &mut [u16],
     tour: &mut [u16],
     lift: &mut [u16],
+    order: &mut [u16],
     work: &mut [u16],
 ) -> Said {
     let s = cells(0, sheet.len(), lent);
     let l = cells(1, label.len(), lent);
     let t = cells(2, tour.len(), lent);
     let f = cells(3, lift.len(), lent);
+    let o = cells(8, order.len(), lent);
     let w = cells(4, work.len(), lent);
     calls::build(
         &sheet[..s],
         &mut label[..l],
         &mut tour[..t],
         &mut lift[..f],
+        &mut order[..o],
         &mut work[..w],
     )
 }
 
 // Each table is as it was.
-fn refused(label: &[u16], tour: &[u16], lift: &[u16], lent: &[usize], log: &mut [usize]) {
+fn refused(
+    label: &[u16],
+    tour: &[u16],
+    lift: &[u16],
+    order: &[u16],
+    lent: &[usize],
+    log: &mut [usize],
+) {
     kept(1, 1, label, number(lent, 1), log);
     kept(1, 2, tour, number(lent, 2), log);
     kept(1, 3, lift, number(lent, 3), log);
+    kept(1, 8, order, number(lent, 8), log);
     count(9, 1, log);
 }
 
@@ -147,15 +172,18 @@ fn accepted(
     label: &[u16],
     tour: &[u16],
     lift: &[u16],
+    order: &[u16],
     own: &[u16],
     lent: &[usize],
     log: &mut [usize],
 ) {
     let l = number(lent, 1);
     let t = number(lent, 2);
+    let f = number(lent, 3);
     table(1, label, own, 0, l, log);
     table(2, tour, own, l, t, log);
-    table(3, lift, own, plus(l, t), number(lent, 3), log);
+    table(3, lift, own, plus(l, t), f, log);
+    table(8, order, own, plus(plus(l, t), f), number(lent, 8), log);
     count(5, fit::tables(number(lent, 0)), log);
 }
 

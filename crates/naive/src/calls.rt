@@ -43,14 +43,22 @@ pub fn build(
     label: &mut [u16],
     tour: &mut [u16],
     lift: &mut [u16],
+    order: &mut [u16],
     work: &mut [u16],
 ) -> Said {
-    said(tables::build(sheet, label, tour, lift, work))
+    said(tables::build(sheet, label, tour, lift, order, work))
 }
 
 // Compares tables with a sheet.
-pub fn compare(sheet: &[u16], label: &[u16], tour: &[u16], lift: &[u16], work: &mut [u16]) -> Said {
-    said(tables::compare(sheet, label, tour, lift, work))
+pub fn compare(
+    sheet: &[u16],
+    label: &[u16],
+    tour: &[u16],
+    lift: &[u16],
+    order: &[u16],
+    work: &mut [u16],
+) -> Said {
+    said(tables::compare(sheet, label, tour, lift, order, work))
 }
 
 // Asks pairs by a route, or a list.
@@ -60,15 +68,16 @@ pub fn ask(
     label: &[u16],
     tour: &[u16],
     lift: &[u16],
+    order: &[u16],
     work: &mut [u16],
     question: &[u16],
     answer: &mut [u16],
 ) -> Said {
     match call {
-        3 => said(routes::pairs_by_labels(sheet, label, tour, lift, work, question, answer)),
-        4 => said(routes::pairs_by_tour(sheet, label, tour, lift, work, question, answer)),
-        5 => said(routes::pairs_by_lifts(sheet, label, tour, lift, work, question, answer)),
-        _ => said(routes::list(sheet, label, tour, lift, work, question, answer)),
+        3 => said(routes::pairs_by_labels(sheet, label, tour, lift, order, work, question, answer)),
+        4 => said(routes::pairs_by_tour(sheet, label, tour, lift, order, work, question, answer)),
+        5 => said(routes::pairs_by_lifts(sheet, label, tour, lift, order, work, question, answer)),
+        _ => said(routes::list(sheet, label, tour, lift, order, work, question, answer)),
     }
 }
 
@@ -78,10 +87,21 @@ pub fn trail(
     label: &[u16],
     tour: &[u16],
     lift: &[u16],
+    order: &[u16],
     work: &mut [u16],
     question: &[u16],
     answer: &mut [u16],
     rows: &mut [u16],
 ) -> Said {
-    traced(routes::trail(sheet, label, tour, lift, work, question, answer, rows))
+    traced(routes::trail(
+        sheet,
+        label,
+        tour,
+        lift,
+        order,
+        work,
+        question,
+        answer,
+        rows,
+    ))
 }

@@ -47,17 +47,17 @@ pub fn first(at: Cells) -> usize {
     least(at.a, at.b)
 }
 
-// The entries that a case gives a sheet of n parts: 17 one off the sheet, 18 two; 19 none names itself; 20 a second root; 21 two parts in each other;
-// 22 a part next to the root in one that it carries, or in itself; 30 as 17, 31 as 22. Any other case changes nothing.
+// The entries that a case gives a sheet of n parts: 19 one off the sheet, 20 two; 21 none names itself; 22 a second root; 23 two parts in each other;
+// 24 a part next to the root in one that it carries, or in itself; 33 as 19, 34 as 24. Any other case changes nothing.
 pub fn entries(case: usize, n: usize, sheet: &[u16], log: &mut [usize]) -> Cells {
     let root = next_root(sheet, n, 0);
     match case {
-        17 | 30 => once(below(n, log), off(n, log)),
-        18 => two_off(n, log),
-        19 => once(root, other(n, root, log)),
-        20 => second_root(n, root, log),
-        21 => loop_of_two(n, root, log),
-        22 | 31 => loop_of_many(n, root, sheet, log),
+        19 | 33 => once(below(n, log), off(n, log)),
+        20 => two_off(n, log),
+        21 => once(root, other(n, root, log)),
+        22 => second_root(n, root, log),
+        23 => loop_of_two(n, root, log),
+        24 | 34 => loop_of_many(n, root, sheet, log),
         _ => once(root, root),
     }
 }
@@ -107,16 +107,18 @@ fn loop_of_many(n: usize, root: usize, sheet: &[u16], log: &mut [usize]) -> Cell
     once(top, v)
 }
 
-// The cells of the tables, end to end, that a case changes: 23 to 25 one of the label, tour or lift table, 26 and 31 to 33 two of any, or one
+// The cells of the tables, end to end, that a case changes: 25 to 28 one of the label, tour, lift or order table, 29 and 34 to 36 two of any, or one
 // twice. In any other case the place is past all of them.
 pub fn table_cells(case: usize, n: usize, own: &[u16], log: &mut [usize]) -> Cells {
     let l = times(6, n);
-    let t = fit::tour(n);
+    let t = plus(l, fit::tour(n));
+    let f = plus(t, fit::lift(n));
     match case {
-        23 => spoiled(below(l, log), own, log),
-        24 => spoiled(plus(l, below(t, log)), own, log),
-        25 => spoiled(plus(plus(l, t), below(fit::lift(n), log)), own, log),
-        26 | 31 | 32 | 33 => two_spoiled(fit::tables(n), own, log),
+        25 => spoiled(below(l, log), own, log),
+        26 => spoiled(plus(l, below(fit::tour(n), log)), own, log),
+        27 => spoiled(plus(t, below(fit::lift(n), log)), own, log),
+        28 => spoiled(plus(f, below(n, log)), own, log),
+        29 | 34 | 35 | 36 => two_spoiled(fit::tables(n), own, log),
         _ => once(fit::NONE, 0),
     }
 }

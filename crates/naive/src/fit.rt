@@ -1,5 +1,6 @@
 // The exact lengths of the buffers. `lent` has the cells that are lent of each, by its number: 0 the sheet, 1 label, 2 tour, 3 lift,
-// 4 work, 5 question, 6 answer, 7 trail. The calls: 0 check, 1 build, 2 compare, 3 pairs by labels, 4 by the tour, 5 by lifts, 6 trail, 7 list.
+// 4 work, 5 question, 6 answer, 7 trail, 8 order. The calls: 0 check, 1 build, 2 compare, 3 pairs by labels, 4 by the tour, 5 by lifts, 6 trail,
+// 7 list.
 
 use crate::buffer::number;
 use crate::buffer::set;
@@ -27,9 +28,9 @@ pub fn lift(n: usize) -> usize {
     times(n, plus(log(n), 1))
 }
 
-// The cells of the three tables of n parts.
+// The cells of the four tables of n parts.
 pub fn tables(n: usize) -> usize {
-    plus(plus(times(6, n), tour(n)), lift(n))
+    plus(plus(times(6, n), tour(n)), plus(lift(n), n))
 }
 
 // Whether a call asks pairs.
@@ -81,12 +82,16 @@ fn exact(call: usize, buffer: usize, lent: &[usize]) -> usize {
         4 => times(4, n),
         5 => fit_question(call, cells),
         6 => answer(call, cells),
-        _ => 64,
+        7 => 64,
+        _ => n,
     }
 }
 
 // Whether a call is lent a buffer.
 pub fn has(call: usize, buffer: usize) -> bool {
+    if buffer == 8 {
+        return 0 < call;
+    }
     match call {
         0 => buffer == 4,
         1 | 2 => buffer <= 4,
@@ -106,7 +111,7 @@ fn is_unfit(call: usize, buffer: usize, lent: &[usize]) -> bool {
 // The lowest buffer of a call that has not its exact length, or 0.
 pub fn unfit(call: usize, lent: &[usize]) -> usize {
     let mut buffer = 1;
-    while buffer < 8 {
+    while buffer < 9 {
         if is_unfit(call, buffer, lent) {
             return buffer;
         }
@@ -120,7 +125,7 @@ pub fn all(call: usize, n: usize, count: usize, lent: &mut [usize]) {
     set(lent, 0, n);
     set(lent, 5, question(call, count));
     let mut buffer = 1;
-    while buffer < 8 {
+    while buffer < 9 {
         let cells = exact(call, buffer, lent);
         set(lent, buffer, cells);
         buffer += 1;

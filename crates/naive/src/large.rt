@@ -32,6 +32,13 @@ pub fn lift() -> [u16; 245761]
     [0; 245761]
 }
 
+// The order table.
+pub fn order() -> [u16; 16385]
+    ensures { λ r. ⌜ 16385 ≡ length r ⌝ }
+{
+    [0; 16385]
+}
+
 // Work.
 pub fn work() -> [u16; 65537]
     ensures { λ r. ⌜ 65537 ≡ length r ⌝ }
@@ -74,6 +81,13 @@ pub fn small_lift() -> [u16; 5131]
     [0; 5131]
 }
 
+// The order table of 513 parts.
+pub fn small_order() -> [u16; 514]
+    ensures { λ r. ⌜ 514 ≡ length r ⌝ }
+{
+    [0; 514]
+}
+
 // The trail.
 pub fn rows() -> [u16; 65]
     ensures { λ r. ⌜ 65 ≡ length r ⌝ }
@@ -81,9 +95,9 @@ pub fn rows() -> [u16; 65]
     [0; 65]
 }
 
-// A sheet's own three tables, end to end.
-pub fn own() -> [u16; 884721]
-    ensures { λ r. ⌜ 884721 ≡ length r ⌝ }
+// A sheet's own four tables, end to end.
+pub fn own() -> [u16; 901105]
+    ensures { λ r. ⌜ 901105 ≡ length r ⌝ }
 {
-    [0; 884721]
+    [0; 901105]
 }

@@ -83,8 +83,21 @@ fn with_tables(
     let e = times(6, n);
     let label = part(own, 0, number(lent, 1));
     let tour = part(own, e, number(lent, 2));
-    let lift = part(own, plus(e, fit::tour(n)), number(lent, 3));
-    make(call, sheet, label, tour, lift, work, question, answer, rows)
+    let f = plus(e, fit::tour(n));
+    let lift = part(own, f, number(lent, 3));
+    let order = part(own, plus(f, fit::lift(n)), number(lent, 8));
+    make(
+        call,
+        sheet,
+        label,
+        tour,
+        lift,
+        order,
+        work,
+        question,
+        answer,
+        rows,
+    )
 }
 
 // Makes a call on exact buffers.
@@ -94,16 +107,17 @@ fn make(
     label: &[u16],
     tour: &[u16],
     lift: &[u16],
+    order: &[u16],
     work: &mut [u16],
-    question: &[u16],
+    asked: &[u16],
     answer: &mut [u16],
     rows: &mut [u16],
 ) -> Said {
     if call == 2 {
-        return calls::compare(sheet, label, tour, lift, work);
+        return calls::compare(sheet, label, tour, lift, order, work);
     }
     if call == 6 {
-        return calls::trail(sheet, label, tour, lift, work, question, answer, rows);
+        return calls::trail(sheet, label, tour, lift, order, work, asked, answer, rows);
     }
-    calls::ask(call, sheet, label, tour, lift, work, question, answer)
+    calls::ask(call, sheet, label, tour, lift, order, work, asked, answer)
 }

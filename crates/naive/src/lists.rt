@@ -53,7 +53,7 @@ fn ask_list(
     list: &[u16],
     log: &mut [usize],
 ) -> usize {
-    let mut lent = [0usize; 8];
+    let mut lent = [0usize; 9];
     fit::all(7, n, m, &mut lent);
     hold(7, n, tree, fit::NONE, sheet, own, list, &lent, log)
 }
@@ -117,7 +117,7 @@ fn in_order(
     let mut question = [0u16; 40];
     list_in_order(order, m, list, &mut question);
     let came = ask_list(n, listed(order, m), tree, sheet, own, &question, log);
-    agree(7, 12, order, carrier, came, log);
+    agree(7, 13, order, carrier, came, log);
 }
 
 // Shares a list out into groups at random, asks each, and then the list of their carriers.
@@ -148,7 +148,7 @@ fn share(
         log,
     );
     let came = ask_list(n, asked, tree, sheet, own, &carriers, log);
-    agree(7, 12, 3, carrier, came, log);
+    agree(7, 13, 3, carrier, came, log);
 }
 
 // Asks each group, puts the carriers of those that are not empty, and says how many there are.

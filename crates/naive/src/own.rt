@@ -1,5 +1,6 @@
-// The three tables of a sheet by document 01's definitions, end to end in `own`: PREORDER, SIZE, LEVEL, INLABEL, ASCENDANT, HEAD; E, R and the
-// rows of positions; the rows of carriers. Each column is made cell by cell. `work` holds the LEVEL at each position of the tour meanwhile.
+// The four tables of a sheet by document 01's definitions, end to end in `own`: PREORDER, SIZE, LEVEL, INLABEL, ASCENDANT, HEAD; E, R and the
+// rows of positions; the rows of carriers; the parts in preorder. Each column is made cell by cell. `work` holds the LEVEL at each position of the tour
+// meanwhile.
 
 use crate::buffer::get;
 use crate::buffer::put;
@@ -19,6 +20,7 @@ pub fn tables(n: usize, sheet: &[u16], work: &mut [u16], own: &mut [u16]) {
     places(n, sheet, work, own);
     label(n, sheet, work, own);
     rest(n, sheet, work, own);
+    order(n, sheet, work, own);
 }
 
 // Makes the tour and the first positions.
@@ -70,6 +72,12 @@ fn rest(n: usize, sheet: &[u16], work: &mut [u16], own: &mut [u16]) {
     );
 }
 
+// Makes the order table, with PREORDER there.
+fn order(n: usize, sheet: &[u16], work: &[u16], own: &mut [u16]) {
+    let at = plus(plus(times(6, n), fit::tour(n)), fit::lift(n));
+    column(9, 0, n, at, n, sheet, work, own);
+}
+
 // Makes a number of rows of `count` cells from `from` on, for 1, 2, 4 and so on.
 fn rows(
     what: usize,
@@ -112,7 +120,7 @@ fn column(
 }
 
 // Cell i of a column: 0 PREORDER, 1 SIZE before any part is counted, 2 LEVEL, 3 INLABEL, 4 ASCENDANT, 5 HEAD, 6 R, 7 a row of positions, 8 a row of
-// carriers.
+// carriers, 9 the order table.
 fn cell(
     what: usize,
     power: usize,
@@ -131,7 +139,8 @@ fn cell(
         5 => columns::head(n, plus(i, 1), own),
         6 => walk::first_visit(n, i, own),
         7 => walk::lowest(work, i, power, fit::visits(n)),
-        _ => up(sheet, i, power),
+        8 => up(sheet, i, power),
+        _ => walk::ranked(n, plus(i, 1), own),
     }
 }
 

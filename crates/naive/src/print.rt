@@ -98,17 +98,17 @@ fn name_shape(shape: usize) {
 
 // The name of what was held, with the place in a buffer.
 fn name_point(point: usize, place: usize) {
-    if point < 8 {
+    if point < 9 {
         name_buffer(point);
         text(b" at ");
         decimal(place);
         return;
     }
     match point {
-        8 => text(b"number"),
-        9 => text(b"place"),
-        10 => text(b"lifts"),
-        11 => text(b"lifts by the formula"),
+        9 => text(b"number"),
+        10 => text(b"place"),
+        11 => text(b"lifts"),
+        12 => text(b"lifts by the formula"),
         _ => text(b"carrier of the whole list"),
     }
 }
@@ -122,6 +122,7 @@ fn name_buffer(buffer: usize) {
         4 => text(b"work"),
         6 => text(b"answer"),
         7 => text(b"trail"),
+        8 => text(b"order"),
         _ => text(b"sheet"),
     }
 }

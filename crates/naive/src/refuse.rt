@@ -1,7 +1,7 @@
-// What is refused, of every call that has such input. Cases: 0 an empty sheet, 1 one of 16,385 parts; 2 to 8 a buffer a cell short, 9 to 15 a cell long,
-// 16 two unfit buffers; 17 to 22 a damaged sheet; 23 to 25 a damaged cell of a table, 26 two of any; 27 an empty question; 28 a number that
-// is no part, 29 two. And two or three at once, of which the first test decides: 30 is 16 with 17, 31 is 22 with 26 and 28, 32 is 26 with 27, 33 is 26
-// with 28.
+// What is refused, of every call that has such input. Cases: 0 an empty sheet, 1 one of 16,385 parts; 2 to 9 a buffer a cell short, 10 to 17 a cell long,
+// 18 two unfit buffers; 19 to 24 a damaged sheet; 25 to 28 a damaged cell of a table, 29 two of any; 30 an empty question; 31 a number that
+// is no part, 32 two. And two or three at once, of which the first test decides: 33 is 18 with 19, 34 is 24 with 29 and 31, 35 is 29 with 30, 36 is 29
+// with 31.
 
 use crate::ask;
 use crate::buffer::number;
@@ -17,7 +17,7 @@ use crate::tests;
 use crate::tests::Said;
 
 // How many cases there are, each of the eight calls.
-const CASES: usize = 272;
+const CASES: usize = 296;
 
 // Holds every case of every call.
 pub fn all(n: usize, tree: Said, sheet: &mut [u16], own: &mut [u16], log: &mut [usize]) {
@@ -42,7 +42,7 @@ fn one(
         return;
     }
     let mut question = [0u16; 7];
-    let mut lent = [0usize; 8];
+    let mut lent = [0usize; 9];
     fit::all(call, n, 3, &mut lent);
     ask::list_parts(7, n, &mut question, log);
     unfit(case, call, &mut lent, log);
@@ -53,21 +53,21 @@ fn one(
 // Whether a call has the input of a case, on a sheet of n parts.
 fn applies(case: usize, call: usize, n: usize) -> bool {
     match case {
-        0 | 1 | 17 | 18 => true,
-        16 | 30 => 0 < call,
-        19 | 20 | 22 => 1 < n,
-        21 => 2 < n,
-        23 | 24 | 25 | 26 => 1 < call,
-        27 | 28 | 29 | 32 | 33 => 2 < call,
-        31 => 1 < n && 1 < call,
+        0 | 1 | 19 | 20 => true,
+        18 | 33 => 0 < call,
+        21 | 22 | 24 => 1 < n,
+        23 => 2 < n,
+        25 | 26 | 27 | 28 | 29 => 1 < call,
+        30 | 31 | 32 | 35 | 36 => 2 < call,
+        34 => 1 < n && 1 < call,
         _ => has_exact(call, buffer(case)),
     }
 }
 
 // The buffer that is unfit in a case.
 fn buffer(case: usize) -> usize {
-    if 8 < case {
-        return minus(case, 8);
+    if 9 < case {
+        return minus(case, 9);
     }
     minus(case, 1)
 }
@@ -80,14 +80,14 @@ fn has_exact(call: usize, buffer: usize) -> bool {
     fit::has(call, buffer)
 }
 
-// Lends other lengths, in cases 0 to 16 and 30.
+// Lends other lengths, in cases 0 to 18 and 33.
 fn unfit(case: usize, call: usize, lent: &mut [usize], log: &mut [usize]) {
     match case {
         0 => set(lent, 0, 0),
         1 => set(lent, 0, 16385),
-        2..=8 => shorter(buffer(case), lent),
-        9..=15 => longer(buffer(case), lent),
-        16 | 30 => two_unfit(call, lent, log),
+        2..=9 => shorter(buffer(case), lent),
+        10..=17 => longer(buffer(case), lent),
+        18 | 33 => two_unfit(call, lent, log),
         _ => {}
     }
 }
@@ -104,24 +104,33 @@ fn longer(buffer: usize, lent: &mut [usize]) {
     set(lent, buffer, plus(cells, 1));
 }
 
-// The last buffer that a call is lent, if it is lent tables.
-fn last(call: usize) -> usize {
+// How many buffers a call is lent, if it is lent tables.
+fn buffers(call: usize) -> usize {
     match call {
-        1 | 2 => 4,
-        6 => 7,
-        _ => 6,
+        1 | 2 => 5,
+        6 => 8,
+        _ => 7,
     }
 }
 
-// Lends a cell more of a table, and a cell less of a buffer after it that the call has.
-fn two_unfit(call: usize, lent: &mut [usize], log: &mut [usize]) {
-    let first = plus(1, below(3, log));
-    let second = plus(plus(first, 1), below(minus(last(call), first), log));
-    longer(first, lent);
-    shorter(second, lent);
+// Buffer i of a call, counted from 1 by their numbers: the last is the order table.
+fn ith(i: usize, call: usize) -> usize {
+    if i < buffers(call) {
+        return i;
+    }
+    8
 }
 
-// Lists nothing, or numbers that are no part, in cases 27 to 29 and 31 to 33.
+// Lends a cell more of a buffer, and a cell less of one after it that the call has. A list's question is free, and beside it only the other is unfit.
+fn two_unfit(call: usize, lent: &mut [usize], log: &mut [usize]) {
+    let many = buffers(call);
+    let first = plus(1, below(minus(many, 1), log));
+    let second = plus(plus(first, 1), below(minus(many, first), log));
+    longer(ith(first, call), lent);
+    shorter(ith(second, call), lent);
+}
+
+// Lists nothing, or numbers that are no part, in cases 30 to 32 and 34 to 36.
 fn unlisted(
     case: usize,
     call: usize,
@@ -131,9 +140,9 @@ fn unlisted(
     log: &mut [usize],
 ) {
     match case {
-        27 | 32 => nothing(call, lent),
-        28 | 31 | 33 => no_part(n, question, lent, log),
-        29 => two_no_part(n, question, lent, log),
+        30 | 35 => nothing(call, lent),
+        31 | 34 | 36 => no_part(n, question, lent, log),
+        32 => two_no_part(n, question, lent, log),
         _ => {}
     }
 }
@@ -159,7 +168,7 @@ fn two_no_part(n: usize, question: &mut [u16], lent: &[usize], log: &mut [usize]
     no_part(n, question, lent, log);
 }
 
-// Holds the call, on a damaged sheet in cases 17 to 22, 30 and 31. The damage is undone.
+// Holds the call, on a damaged sheet in cases 19 to 24, 33 and 34. The damage is undone.
 fn damaged(
     case: usize,
     call: usize,
@@ -182,12 +191,12 @@ fn damaged(
 // What the plain tests 4 to 7 say of a sheet that may be damaged.
 fn again(case: usize, n: usize, tree: Said, sheet: &[u16]) -> Said {
     match case {
-        17..=22 | 30 | 31 => tests::tree(sheet, n),
+        19..=24 | 33 | 34 => tests::tree(sheet, n),
         _ => tree,
     }
 }
 
-// Holds the call, with damaged tables in cases 23 to 26 and 31 to 33, which are stale at the first damaged cell. The damage is undone.
+// Holds the call, with damaged tables in cases 25 to 29 and 34 to 36, which are stale at the first damaged cell. The damage is undone.
 fn with_tables(
     case: usize,
     call: usize,

@@ -83,7 +83,7 @@ fn made(i: usize, n: usize, sheet: &mut [u16], own: &mut [u16], log: &mut [usize
 
 // Checks the sheet, builds its tables and compares them.
 fn tables(n: usize, tree: Said, sheet: &[u16], own: &[u16], log: &mut [usize]) {
-    let mut lent = [0usize; 8];
+    let mut lent = [0usize; 9];
     fit::all(0, n, 0, &mut lent);
     hold(0, n, tree, fit::NONE, sheet, own, &[], &lent, log);
     hold(1, n, tree, fit::NONE, sheet, own, &[], &lent, log);

@@ -74,6 +74,18 @@ pub fn rank(n: usize, v: usize, own: &[u16]) -> usize {
     met
 }
 
+// The order table: the part whose PREORDER is k.
+pub fn ranked(n: usize, k: usize, own: &[u16]) -> usize {
+    let mut v = 0;
+    while v < n {
+        if get(own, v) == k {
+            return v;
+        }
+        v += 1;
+    }
+    n
+}
+
 // 1 if a is at most b, or 0.
 fn one_if_upto(a: usize, b: usize) -> usize {
     if a <= b {

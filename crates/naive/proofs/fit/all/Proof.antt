@@ -11,7 +11,7 @@ abbrev Inv-loop : tie.InvT-loop
 Inv-loop call n count lent₀ buffer₀ lent buffer = length lent ≡ length lent₀
 
 abbrev μ-loop : tie.MeasureT-loop
-μ-loop call n count lent₀ buffer₀ lent buffer = 8 - buffer
+μ-loop call n count lent₀ buffer₀ lent buffer = 9 - buffer
 
 set-requires : tie.Need-set-requires Inv-loop μ-loop
 set-requires c κs = search needs

@@ -9,7 +9,7 @@ abbrev Inv-loop : tie.InvT-loop
 Inv-loop call lent buffer₀ buffer = 0 ≤ buffer
 
 abbrev μ-loop : tie.MeasureT-loop
-μ-loop call lent buffer₀ buffer = 8 - buffer
+μ-loop call lent buffer₀ buffer = 9 - buffer
 
 loop-holds : tie.Need-loop-holds Inv-loop μ-loop
 loop-holds c = search needs

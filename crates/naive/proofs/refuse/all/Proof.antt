@@ -11,7 +11,7 @@ abbrev Inv-loop : tie.InvT-loop
 Inv-loop n tree sheet₀ own₀ log₀ i₀ sheet own log i = (length sheet ≡ length sheet₀) × (length own ≡ length own₀) × (length log ≡ length log₀)
 
 abbrev μ-loop : tie.MeasureT-loop
-μ-loop n tree sheet₀ own₀ log₀ i₀ sheet own log i = 272 - i
+μ-loop n tree sheet₀ own₀ log₀ i₀ sheet own log i = 296 - i
 
 loop-holds : tie.Need-loop-holds Inv-loop μ-loop
 loop-holds c = search needs
