@@ -11,6 +11,8 @@
 //! proportion to the tables; what is said below of a pair is what a further pair of the same call costs. [`Tree`](crate::Tree) has the
 //! figures.
 
+#![allow(clippy::too_many_arguments)] // One for each buffer.
+
 use crate::ffi;
 use crate::Refusal;
 
@@ -36,12 +38,13 @@ pub fn check(parents: &[u16], work: &mut [u16]) -> Result<(), Refusal> {
     outcome(number, value).map(drop)
 }
 
-/// Fills the three tables with the sheet's own (tests 1 to 7).
+/// Fills the four tables with the sheet's own (tests 1 to 7).
 pub fn build(
     parents: &[u16],
     label: &mut [u16],
     tour: &mut [u16],
     lift: &mut [u16],
+    order: &mut [u16],
     work: &mut [u16],
 ) -> Result<(), Refusal> {
     let mut value = 0;
@@ -56,6 +59,8 @@ pub fn build(
             tour.len(),
             lift.as_mut_ptr(),
             lift.len(),
+            order.as_mut_ptr(),
+            order.len(),
             work.as_mut_ptr(),
             work.len(),
             &mut value,
@@ -70,6 +75,7 @@ pub fn compare(
     label: &[u16],
     tour: &[u16],
     lift: &[u16],
+    order: &[u16],
     work: &mut [u16],
 ) -> Result<(), Refusal> {
     let mut value = 0;
@@ -84,6 +90,8 @@ pub fn compare(
             tour.len(),
             lift.as_ptr(),
             lift.len(),
+            order.as_ptr(),
+            order.len(),
             work.as_mut_ptr(),
             work.len(),
             &mut value,
@@ -98,19 +106,13 @@ pub fn pairs_by_labels(
     label: &[u16],
     tour: &[u16],
     lift: &[u16],
+    order: &[u16],
     work: &mut [u16],
     question: &[u16],
     answer: &mut [u16],
 ) -> Result<(), Refusal> {
-    let tables = [label, tour, lift];
-    ask(
-        ffi::lca_pairs_by_labels,
-        parents,
-        tables,
-        work,
-        question,
-        answer,
-    )
+    let (call, tables) = (ffi::lca_pairs_by_labels, [label, tour, lift, order]);
+    ask(call, parents, tables, work, question, answer)
 }
 
 /// The carrier of each pair, by the tour table (tests 1 to 11), in constant time a further pair.
@@ -119,19 +121,13 @@ pub fn pairs_by_tour(
     label: &[u16],
     tour: &[u16],
     lift: &[u16],
+    order: &[u16],
     work: &mut [u16],
     question: &[u16],
     answer: &mut [u16],
 ) -> Result<(), Refusal> {
-    let tables = [label, tour, lift];
-    ask(
-        ffi::lca_pairs_by_tour,
-        parents,
-        tables,
-        work,
-        question,
-        answer,
-    )
+    let (call, tables) = (ffi::lca_pairs_by_tour, [label, tour, lift, order]);
+    ask(call, parents, tables, work, question, answer)
 }
 
 /// The carrier of each pair, by the lift table (tests 1 to 11), in up to about 2 log n + 2 steps a further pair.
@@ -140,19 +136,13 @@ pub fn pairs_by_lifts(
     label: &[u16],
     tour: &[u16],
     lift: &[u16],
+    order: &[u16],
     work: &mut [u16],
     question: &[u16],
     answer: &mut [u16],
 ) -> Result<(), Refusal> {
-    let tables = [label, tour, lift];
-    ask(
-        ffi::lca_pairs_by_lifts,
-        parents,
-        tables,
-        work,
-        question,
-        answer,
-    )
+    let (call, tables) = (ffi::lca_pairs_by_lifts, [label, tour, lift, order]);
+    ask(call, parents, tables, work, question, answer)
 }
 
 /// The carrier of all the parts listed (tests 1 to 11).
@@ -161,22 +151,23 @@ pub fn list(
     label: &[u16],
     tour: &[u16],
     lift: &[u16],
+    order: &[u16],
     work: &mut [u16],
     question: &[u16],
     answer: &mut [u16],
 ) -> Result<(), Refusal> {
-    let tables = [label, tour, lift];
+    let tables = [label, tour, lift, order];
     ask(ffi::lca_list, parents, tables, work, question, answer)
 }
 
 /// The carrier of one pair, and its trail (tests 1 to 11): a row of two cells in `rows` for each lift, x's side and then y's, and
 /// [`NO_CELL`](crate::cells::NO_CELL) after them. Gives the count of lifts.
-#[allow(clippy::too_many_arguments)] // One for each buffer.
 pub fn trail(
     parents: &[u16],
     label: &[u16],
     tour: &[u16],
     lift: &[u16],
+    order: &[u16],
     work: &mut [u16],
     question: &[u16],
     answer: &mut [u16],
@@ -194,6 +185,8 @@ pub fn trail(
             tour.len(),
             lift.as_ptr(),
             lift.len(),
+            order.as_ptr(),
+            order.len(),
             work.as_mut_ptr(),
             work.len(),
             question.as_ptr(),
@@ -208,8 +201,46 @@ pub fn trail(
     outcome(number, value)
 }
 
-/// A C function for pairs or a list: a pointer and a length for each of parents, label, tour, lift, work, question and answer.
+/// The subtree of a part (tests 1 to 8, and 10 of the part, at 0): the parts that it carries, in preorder and itself first. They are cells of
+/// `order` itself, never a copy.
+pub fn subtree<'a>(
+    parents: &[u16],
+    label: &[u16],
+    tour: &[u16],
+    lift: &[u16],
+    order: &'a [u16],
+    work: &mut [u16],
+    part: usize,
+) -> Result<&'a [u16], Refusal> {
+    let (mut start, mut value) = (0, 0);
+    // SAFETY: as in `compare`; `start` and `value` overlap nothing.
+    let number = unsafe {
+        ffi::lca_subtree(
+            parents.as_ptr(),
+            parents.len(),
+            label.as_ptr(),
+            label.len(),
+            tour.as_ptr(),
+            tour.len(),
+            lift.as_ptr(),
+            lift.len(),
+            order.as_ptr(),
+            order.len(),
+            work.as_mut_ptr(),
+            work.len(),
+            part,
+            &mut start,
+            &mut value,
+        )
+    };
+    let count = outcome(number, value)?;
+    Ok(&order[start as usize..][..count as usize])
+}
+
+/// A C function for pairs or a list: a pointer and a length for each of parents, label, tour, lift, order, work, question and answer.
 type Answering = unsafe extern "C" fn(
+    *const u16,
+    usize,
     *const u16,
     usize,
     *const u16,
@@ -231,7 +262,7 @@ type Answering = unsafe extern "C" fn(
 fn ask(
     call: Answering,
     parents: &[u16],
-    [label, tour, lift]: [&[u16]; 3],
+    [label, tour, lift, order]: [&[u16]; 4],
     work: &mut [u16],
     question: &[u16],
     answer: &mut [u16],
@@ -248,6 +279,8 @@ fn ask(
             tour.len(),
             lift.as_ptr(),
             lift.len(),
+            order.as_ptr(),
+            order.len(),
             work.as_mut_ptr(),
             work.len(),
             question.as_ptr(),

@@ -39,6 +39,15 @@ pub const fn lift(n: usize) -> usize {
     }
 }
 
+/// The cells of the order table: n.
+pub const fn order(n: usize) -> usize {
+    if has_tables(n) {
+        n
+    } else {
+        0
+    }
+}
+
 /// The cells of the work buffer: 4n.
 pub const fn work(n: usize) -> usize {
     if has_tables(n) {
@@ -56,14 +65,19 @@ const fn has_tables(n: usize) -> bool {
 mod tests {
     use super::*;
 
+    /// All lengths for n parts: label, tour, lift, order and work.
+    fn all(n: usize) -> [usize; 5] {
+        [label(n), tour(n), lift(n), order(n), work(n)]
+    }
+
     #[test]
-    fn seven_parts_have_42_72_and_21_cells() {
-        assert_eq!((label(7), tour(7), lift(7), work(7)), (42, 72, 21, 28));
+    fn seven_parts_have_42_72_21_and_7_cells() {
+        assert_eq!(all(7), [42, 72, 21, 7, 28]);
     }
 
     #[test]
     fn one_part_has_a_tour_of_one_visit() {
-        assert_eq!((label(1), tour(1), lift(1), work(1)), (6, 3, 1, 4));
+        assert_eq!(all(1), [6, 3, 1, 1, 4]);
     }
 
     #[test]
@@ -72,13 +86,14 @@ mod tests {
         assert_eq!(label(MOST_PARTS), 98_304);
         assert_eq!(tour(MOST_PARTS), 32_767 * 16 + 16_384);
         assert_eq!(lift(MOST_PARTS), 16_384 * 15);
+        assert_eq!(order(MOST_PARTS), 16_384);
         assert_eq!(work(MOST_PARTS), 65_536);
     }
 
     #[test]
     fn no_other_length_has_tables() {
         for n in [0, MOST_PARTS + 1, usize::MAX] {
-            assert_eq!((label(n), tour(n), lift(n), work(n)), (0, 0, 0, 0));
+            assert_eq!(all(n), [0; 5]);
         }
     }
 }

@@ -8,10 +8,12 @@
 //! | root | the part that names itself: its entry is its own number |
 //! | level | the steps from a part up to the root; a step goes from a part to its entry |
 //! | carries | a part carries itself and all that is bolted into what it carries: it is an ancestor of each |
+//! | subtree | of a part, the parts that it carries ([`Tree::subtree`]) |
 //! | carrier | of two parts, or of a list, their lowest common ancestor: the common carrier that all others of theirs carry, the smallest assembly |
 //! | route | a way to find the carrier of a pair: by labels, by tour or by lifts ([`Route`]). All give the same answers |
 //! | lift | one raise by the lift route, of one part or of both, by 2^k steps |
 //! | trail | the lifts of a pair in order: after each, where the two parts are ([`Trail`]) |
+//! | preorder | an order of the parts: the root first, a part before all else that it carries, and parts with one entry by rising number |
 //!
 //! ```
 //! use lca::Tree;
@@ -23,6 +25,7 @@
 //! assert_eq!(tree.pairs_by_labels(&[(3, 4), (3, 6), (5, 6)])?, [1, 0, 5]);
 //! assert_eq!(tree.list(&[6, 5, 2])?, 2);
 //! assert_eq!(tree.trail(3, 6)?.rows, [(3, 5), (1, 2), (0, 0)]);
+//! assert_eq!(tree.subtree(2)?, [2, 5, 6]);
 //!
 //! // What cannot be answered is refused, with a number and a place.
 //! let refusal = tree.carrier(3, 7).unwrap_err();
@@ -65,7 +68,7 @@ pub use tree::Tree;
 /// ```
 /// assert_eq!(lca::calls::version(), lca::VERSION);
 /// ```
-pub const VERSION: u32 = 1;
+pub const VERSION: u32 = 2;
 
 #[cfg(doctest)]
 #[doc = include_str!("../README.md")]

@@ -31,7 +31,8 @@ impl Refusal {
     pub const BARE: u32 = 1;
     /// The sheet has more than [`MOST_PARTS`](crate::cells::MOST_PARTS) parts. Place: 0.
     pub const OVERSIZE: u32 = 2;
-    /// A buffer hasn't its exact length. Place: the lowest such buffer, of 1 label, 2 tour, 3 lift, 4 work, 5 question, 6 answer, 7 trail.
+    /// A buffer hasn't its exact length. Place: the lowest such buffer, of 1 label, 2 tour, 3 lift, 4 work, 5 question, 6 answer, 7 trail,
+    /// 8 order.
     pub const MISFIT: u32 = 3;
     /// An entry is n or more, of n parts. Place: the lowest part with such an entry.
     pub const OFF_SHEET: u32 = 4;
@@ -41,11 +42,12 @@ impl Refusal {
     pub const SECOND_ROOT: u32 = 6;
     /// A part's climb never meets the root. Place: the lowest such part.
     pub const LOOP: u32 = 7;
-    /// A table's cell isn't this sheet's. Place: the first such cell, from 0, of label, tour and lift end to end.
+    /// A table's cell isn't this sheet's. Place: the first such cell, from 0, of label, tour, lift and order end to end.
     pub const STALE: u32 = 8;
     /// The question is empty. Place: 0.
     pub const NOTHING_LISTED: u32 = 9;
-    /// A number in the question is n or more, of n parts. Place: the first such position in the question, from 0, two to a pair.
+    /// A number in the question is n or more, of n parts. Place: the first such position in the question, from 0, two to a pair; 0 where a
+    /// subtree is asked for, of one part.
     pub const NO_SUCH_PART: u32 = 10;
     /// The parts asked for have no common carrier. Place: 0. No sheet that passes the tests before has such parts.
     pub const ADRIFT: u32 = 11;

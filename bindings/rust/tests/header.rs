@@ -3,6 +3,7 @@
 use lca::{calls, cells, Refusal, VERSION};
 
 const HEADER: &str = include_str!("../../../include/lca.h");
+const FFI: &str = include_str!("../src/ffi.rs");
 
 /// The number behind `before` in the line of the header that begins so.
 fn number_after(before: &str) -> Option<u64> {
@@ -68,4 +69,46 @@ fn the_header_has_the_same_limits() {
     assert_eq!(in_header("MOST_PARTS"), cells::MOST_PARTS as u64);
     assert_eq!(in_header("TRAIL_CELLS"), cells::TRAIL as u64);
     assert_eq!(in_header("NO_CELL"), cells::NO_CELL.into());
+}
+
+/// What stands between `open` and the next `)` of a text, without the spaces at its ends, cut at commas.
+fn list_after<'a>(text: &'a str, open: &str) -> Vec<&'a str> {
+    let (_, rest) = text.split_once(open).unwrap_or_else(|| panic!("{open}"));
+    let (list, _) = rest.split_once(')').unwrap();
+    let items = list.split(',').map(str::trim);
+    items.filter(|item| !item.is_empty()).collect()
+}
+
+/// An argument of C, as Rust declares it: a name and a type.
+fn in_rust(argument: &str) -> String {
+    let name = argument.rsplit([' ', '*']).next().unwrap();
+    let kind = match argument.strip_suffix(name).unwrap().trim() {
+        "const uint16_t *" => "*const u16",
+        "uint16_t *" => "*mut u16",
+        "uint64_t *" => "*mut u64",
+        "size_t" => "usize",
+        other => panic!("{other}"),
+    };
+    format!("{name}: {kind}")
+}
+
+#[test]
+fn the_header_declares_the_same_calls_with_the_same_arguments() {
+    let calls = FFI.lines().filter_map(|line| {
+        let name = line.trim_start().strip_prefix("pub fn ")?;
+        name.split('(').next()
+    });
+    let calls: Vec<&str> = calls.collect();
+    let declared = HEADER
+        .lines()
+        .filter(|line| line.starts_with("uint32_t lca_"));
+    assert_eq!(calls.len(), declared.count());
+    for name in calls {
+        let (c, rust) = (format!("\nuint32_t {name}("), format!("pub fn {name}("));
+        let c = list_after(HEADER, &c)
+            .into_iter()
+            .filter(|&none| none != "void");
+        let c: Vec<String> = c.map(in_rust).collect();
+        assert_eq!(c, list_after(FFI, &rust), "{name}");
+    }
 }

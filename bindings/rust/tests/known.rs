@@ -1,4 +1,4 @@
-//! Document 01's known sheets and the card of numbers, worked out by hand.
+//! Document 01's known sheets and the card of numbers, worked out by hand. Subtrees are in `subtrees.rs`.
 
 use lca::{calls, Refusal, Route, Trail, Tree};
 
@@ -33,6 +33,8 @@ const LIFT: [u16; 21] = [
     0, 0, 0, 0, 0, 0, 0,
 ];
 
+const ORDER: [u16; 7] = [0, 1, 3, 4, 2, 5, 6];
+
 fn refusal(number: u32, place: u64) -> Refusal {
     Refusal { number, place }
 }
@@ -48,7 +50,9 @@ fn the_sheet_of_seven_parts_has_its_tables() {
     assert_eq!(tree.label(), LABEL);
     assert_eq!(tree.tour(), TOUR);
     assert_eq!(tree.lift(), LIFT);
-    assert_eq!(Tree::from_tables(&SHEET, &LABEL, &TOUR, &LIFT), Ok(tree));
+    assert_eq!(tree.order(), ORDER);
+    let kept = Tree::from_tables(&SHEET, &LABEL, &TOUR, &LIFT, &ORDER);
+    assert_eq!(kept, Ok(tree));
 }
 
 #[test]
@@ -92,6 +96,7 @@ fn a_trail_s_unused_cells_become_65535() {
         &LABEL,
         &TOUR,
         &LIFT,
+        &ORDER,
         &mut work,
         &[0, 6],
         &mut answer,
@@ -108,6 +113,7 @@ fn a_sheet_of_one_part() {
     assert_eq!(tree.label(), [1, 1, 0, 1, 1, 0]);
     assert_eq!(tree.tour(), [0, 0, 0]);
     assert_eq!(tree.lift(), [0]);
+    assert_eq!(tree.order(), [0]);
     assert_eq!(tree.carrier(0, 0), Ok(0));
     assert_eq!(tree.carrier(0, 1), Err(refusal(10, 1)));
 }
@@ -118,6 +124,7 @@ fn a_sheet_whose_root_is_its_last_part() {
     assert_eq!(tree.label(), [2, 1, 1, 2, 1, 0, 2, 2, 2, 2, NONE, 1]);
     assert_eq!(tree.tour(), [1, 0, 1, 1, 0, 0, 1, 2, 0, 2, NONE]);
     assert_eq!(tree.lift(), [1, 1, 1, 1]);
+    assert_eq!(tree.order(), [1, 0]);
     assert_eq!(tree.carrier(0, 1), Ok(1));
 }
 
@@ -141,26 +148,54 @@ fn the_longest_chain_is_answered() {
     assert_eq!(tree.carrier(0, 16_384), Err(refusal(10, 1)));
 }
 
+/// The exact lengths of buffers 1 to 8 for a trail.
+const EXACT: [usize; 8] = [42, 72, 21, 28, 2, 1, 64, 7];
+
+/// A trail's refusal where these buffers have these lengths. It changes nothing.
+fn misfit(lengths: &[(usize, usize)]) -> Refusal {
+    let mut lent = EXACT.map(|cells| vec![3; cells]);
+    for &(buffer, length) in lengths {
+        lent[buffer - 1].resize(length, 3);
+    }
+    let [label, tour, lift, work, question, answer, rows, order] = &mut lent;
+    let result = calls::trail(
+        &SHEET, label, tour, lift, order, work, question, answer, rows,
+    );
+    assert!(lent.concat().iter().all(|&cell| cell == 3));
+    result.unwrap_err()
+}
+
 #[test]
 fn a_misfit_names_its_buffer_and_changes_nothing() {
-    let exact = [42, 72, 21, 28, 2, 1, 64];
-    for buffer in 1..=7 {
-        for length in [exact[buffer - 1] - 1, exact[buffer - 1] + 1] {
-            let mut lent = exact.map(|cells| vec![3; cells]);
-            lent[buffer - 1].resize(length, 3);
-            let [label, tour, lift, work, question, answer, rows] = &mut lent;
-            let result = calls::trail(&SHEET, label, tour, lift, work, question, answer, rows);
-            assert_eq!(result, Err(refusal(3, buffer as u64)));
-            assert!(lent.concat().iter().all(|&cell| cell == 3));
+    for buffer in 1..=8 {
+        for length in [EXACT[buffer - 1] - 1, EXACT[buffer - 1] + 1] {
+            assert_eq!(misfit(&[(buffer, length)]), refusal(3, buffer as u64));
         }
     }
 }
 
 #[test]
+fn the_lowest_misfit_is_named_and_the_order_table_is_the_highest() {
+    assert_eq!(misfit(&[(7, 63), (8, 8)]), refusal(3, 7));
+    assert_eq!(misfit(&[(6, 0), (8, 0)]), refusal(3, 6));
+    assert_eq!(misfit(&[(5, 3), (7, 65), (8, 6)]), refusal(3, 5));
+    assert_eq!(misfit(&[(3, 20), (8, 6)]), refusal(3, 3));
+    assert_eq!(misfit(&[(8, 6)]), refusal(3, 8));
+}
+
+#[test]
 fn an_odd_question_is_a_misfit() {
     let (mut work, mut answer) = ([3; 28], [3]);
-    let odd = [3, 4, 0];
-    let result = calls::pairs_by_tour(&SHEET, &LABEL, &TOUR, &LIFT, &mut work, &odd, &mut answer);
+    let result = calls::pairs_by_tour(
+        &SHEET,
+        &LABEL,
+        &TOUR,
+        &LIFT,
+        &ORDER,
+        &mut work,
+        &[3, 4, 0],
+        &mut answer,
+    );
     assert_eq!(result, Err(refusal(3, 5)));
     assert_eq!((work, answer), ([3; 28], [3]));
 }
@@ -188,12 +223,14 @@ fn sheets_that_are_not_one_tree() {
 
 #[test]
 fn stale_cells_are_counted_through_the_tables() {
-    for place in [0, 41, 42, 54, 113, 114, 134] {
-        let mut tables = [&LABEL[..], &TOUR, &LIFT].concat();
+    // The order table's cells are 42 + 72 + 21 on.
+    for place in [0, 41, 42, 54, 113, 114, 134, 135, 138, 141] {
+        let mut tables = [&LABEL[..], &TOUR, &LIFT, &ORDER].concat();
         tables[place] ^= 1;
         let (label, rest) = tables.split_at(42);
-        let (tour, lift) = rest.split_at(72);
-        let result = Tree::from_tables(&SHEET, label, tour, lift);
+        let (tour, rest) = rest.split_at(72);
+        let (lift, order) = rest.split_at(21);
+        let result = Tree::from_tables(&SHEET, label, tour, lift, order);
         assert_eq!(result, Err(refusal(8, place as u64)));
     }
 }
@@ -204,7 +241,7 @@ fn sizes_that_add_up_only_modulo_65536_are_stale() {
     let mut label = LABEL;
     label[8] = 65_535;
     label[9] = 7;
-    let result = Tree::from_tables(&SHEET, &label, &TOUR, &LIFT);
+    let result = Tree::from_tables(&SHEET, &label, &TOUR, &LIFT, &ORDER);
     assert_eq!(result, Err(refusal(8, 8)));
 }
 
@@ -213,7 +250,13 @@ fn the_largest_sizes_that_can_be_lent_are_stale() {
     let star = Tree::new(&[0; 16_384]).unwrap();
     let mut label = star.label().to_vec();
     label[16_384 + 1..2 * 16_384].fill(65_535);
-    let result = Tree::from_tables(star.parents(), &label, star.tour(), star.lift());
+    let result = Tree::from_tables(
+        star.parents(),
+        &label,
+        star.tour(),
+        star.lift(),
+        star.order(),
+    );
     assert_eq!(result, Err(refusal(8, 16_384 + 1)));
 }
 
@@ -236,6 +279,7 @@ fn what_is_only_read_may_be_lent_twice() {
         &LABEL,
         &TOUR,
         &LIFT,
+        &ORDER,
         &mut work,
         &SHEET[3..],
         &mut answer,

@@ -1,4 +1,4 @@
-//! What the C functions leave in `value`, on the sheet `1 1`.
+//! What the C functions leave in `value`, and a subtree's in `start`, on the sheet `1 1`.
 
 use crate::ffi;
 
@@ -8,8 +8,9 @@ const PARENTS: [u16; 2] = [1, 1];
 const LABEL: [u16; 12] = [2, 1, 1, 2, 1, 0, 2, 2, 2, 2, 65_535, 1];
 const TOUR: [u16; 11] = [1, 0, 1, 1, 0, 0, 1, 2, 0, 2, 65_535];
 const LIFT: [u16; 4] = [1, 1, 1, 1];
+const ORDER: [u16; 2] = [1, 0];
 
-/// What `value` holds before a call.
+/// What `value` and `start` hold before a call.
 const BEFORE: u64 = u64::MAX;
 
 /// Asks by `call`: the result, the answer and the value.
@@ -26,6 +27,8 @@ fn ask(call: super::Answering, question: &[u16], label: &[u16]) -> (u32, u16, u6
             TOUR.len(),
             LIFT.as_ptr(),
             LIFT.len(),
+            ORDER.as_ptr(),
+            ORDER.len(),
             work.as_mut_ptr(),
             work.len(),
             question.as_ptr(),
@@ -81,7 +84,7 @@ fn an_accepted_check_s_value_is_0_and_a_refused_one_s_the_place() {
 
 #[test]
 fn building_and_comparing_leave_0() {
-    let (mut label, mut tour, mut lift) = ([9; 12], [9; 11], [9; 4]);
+    let (mut label, mut tour, mut lift, mut order) = ([9; 12], [9; 11], [9; 4], [9; 2]);
     let (mut work, mut built, mut compared) = ([7; 8], BEFORE, BEFORE);
     // SAFETY: each pointer and length are one array's, and no two of those overlap.
     let numbers = unsafe {
@@ -94,6 +97,8 @@ fn building_and_comparing_leave_0() {
             11,
             lift.as_mut_ptr(),
             4,
+            order.as_mut_ptr(),
+            2,
             work.as_mut_ptr(),
             8,
             &mut built,
@@ -107,6 +112,8 @@ fn building_and_comparing_leave_0() {
             11,
             lift.as_ptr(),
             4,
+            order.as_ptr(),
+            2,
             work.as_mut_ptr(),
             8,
             &mut compared,
@@ -114,7 +121,7 @@ fn building_and_comparing_leave_0() {
         [build, compare]
     };
     assert_eq!((numbers, built, compared), ([0, 0], 0, 0));
-    assert_eq!((label, tour, lift), (LABEL, TOUR, LIFT));
+    assert_eq!((label, tour, lift, order), (LABEL, TOUR, LIFT, ORDER));
 }
 
 #[test]
@@ -136,6 +143,8 @@ fn a_trail_s_value_is_its_count_of_lifts() {
                 TOUR.len(),
                 LIFT.as_ptr(),
                 LIFT.len(),
+                ORDER.as_ptr(),
+                ORDER.len(),
                 work.as_mut_ptr(),
                 work.len(),
                 question.as_ptr(),
@@ -148,5 +157,47 @@ fn a_trail_s_value_is_its_count_of_lifts() {
             )
         };
         assert_eq!((number, answer[0], value), result);
+    }
+}
+
+/// Asks for a part's subtree, with this order table: the result, `start`, `value` and work.
+fn subtree(part: usize, order: &[u16]) -> (u32, u64, u64, [u16; 8]) {
+    let (mut work, mut start, mut value) = ([7; 8], BEFORE, BEFORE);
+    // SAFETY: each pointer and length are one array's, and no two of those overlap.
+    let number = unsafe {
+        ffi::lca_subtree(
+            PARENTS.as_ptr(),
+            PARENTS.len(),
+            LABEL.as_ptr(),
+            LABEL.len(),
+            TOUR.as_ptr(),
+            TOUR.len(),
+            LIFT.as_ptr(),
+            LIFT.len(),
+            order.as_ptr(),
+            order.len(),
+            work.as_mut_ptr(),
+            work.len(),
+            part,
+            &mut start,
+            &mut value,
+        )
+    };
+    (number, start, value, work)
+}
+
+#[test]
+fn a_subtree_s_value_is_its_count_and_its_start_its_first_cell() {
+    assert_eq!(subtree(1, &ORDER), (0, 0, 2, [0; 8]));
+    assert_eq!(subtree(0, &ORDER), (0, 1, 1, [0; 8]));
+}
+
+#[test]
+fn a_refused_subtree_s_value_is_the_place_and_its_start_is_0() {
+    for part in [2, 3, 65_535, 65_536, usize::MAX] {
+        assert_eq!(subtree(part, &ORDER), (10, 0, 0, [0; 8]));
+        // 12, 11 and 4 cells stand before the order table's.
+        assert_eq!(subtree(part, &[1, 1]), (8, 0, 28, [0; 8]));
+        assert_eq!(subtree(part, &ORDER[1..]), (3, 0, 8, [7; 8]));
     }
 }

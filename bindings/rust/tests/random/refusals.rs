@@ -2,7 +2,7 @@
 
 use std::collections::BTreeSet;
 
-use crate::model::{Call, Lent, BUFFERS};
+use crate::model::{Call, Lent, BUFFERS, TABLES};
 use crate::support::{
     alter_cell, alter_length, change, edges, empty_question, name_no_part, sound_cases, Case,
     Damage, Length, Rng, Shape,
@@ -46,7 +46,8 @@ fn the_lowest_of_several_misfits_is_named() {
 fn assert_stale(case: &mut Case, buffer: usize, cell: usize) {
     for call in Call::ALL.into_iter().filter(|call| call.reads_tables()) {
         let mut lent = case.lent(call);
-        let before: usize = (1..buffer).map(|b| lent.buffer(b).len()).sum();
+        let tables = TABLES.into_iter().take_while(|&table| table != buffer);
+        let before: usize = tables.map(|table| lent.buffer(table).len()).sum();
         change(&mut lent, buffer, cell, &mut case.rng);
         name_no_part(&mut lent, &mut case.rng);
         let result = case.agree(call, &lent);
@@ -57,9 +58,9 @@ fn assert_stale(case: &mut Case, buffer: usize, cell: usize) {
 #[test]
 fn every_cell_of_a_short_sheet_s_tables_counts() {
     for mut case in sound_cases(24, 1, 8) {
-        let lent = case.lent(Call::Compare);
-        for (buffer, table) in [(1, lent.label), (2, lent.tour), (3, lent.lift)] {
-            for cell in 0..table.len() {
+        let mut lent = case.lent(Call::Compare);
+        for buffer in TABLES {
+            for cell in 0..lent.buffer(buffer).len() {
                 assert_stale(&mut case, buffer, cell);
             }
         }
@@ -92,12 +93,41 @@ fn questions_of_nothing_or_of_parts_that_are_not_there_are_refused() {
     }
 }
 
+#[test]
+fn subtrees_of_parts_that_are_not_there_are_refused() {
+    for mut case in sound_cases(200, 1, 60) {
+        let mut lent = case.lent(Call::Subtree);
+        for _ in 0..6 {
+            name_no_part(&mut lent, &mut case.rng);
+            let result = case.agree(Call::Subtree, &lent);
+            assert_eq!(result, Err((10, 0)), "part {}, {}", lent.part, case.note);
+        }
+    }
+}
+
+/// The parts of the order table in another order are the sheet's own no more, from the first of two that changed places on.
+#[test]
+fn an_order_table_that_is_shuffled_is_stale() {
+    for mut case in sound_cases(200, 2, 60) {
+        let n = case.n();
+        let (first, other) = (case.rng.below(n - 1), case.rng.below(n - 1));
+        let second = first + 1 + other % (n - 1 - first);
+        for call in Call::ALL.into_iter().filter(|call| call.reads_tables()) {
+            let mut lent = case.lent(call);
+            lent.order.swap(first, second);
+            let before = lent.label.len() + lent.tour.len() + lent.lift.len();
+            let stale = Err((8, (before + first) as u64));
+            assert_eq!(case.agree(call, &lent), stale, "{}", case.note);
+        }
+    }
+}
+
 /// Makes up to three things wrong.
 fn alter(case: &mut Case, call: Call, lent: &mut Lent) {
     let rng = &mut case.rng;
     for _ in 0..rng.below(4) {
         match rng.below(8) {
-            0 => alter_length(lent, 1 + rng.below(7), rng.pick(&Length::ALL)),
+            0 => alter_length(lent, 1 + rng.below(8), rng.pick(&Length::ALL)),
             1 => empty_question(lent, call),
             2..=4 => name_no_part(lent, rng),
             _ => alter_cell(lent, rng),
@@ -110,7 +140,7 @@ fn can_give(call: Call, number: u32) -> bool {
     match number {
         8 => call.reads_tables(),
         9 => call.answers() && call != Call::Trail,
-        10 => call.answers(),
+        10 => call.answers() || call == Call::Subtree,
         _ => true,
     }
 }

@@ -67,6 +67,12 @@ fn every_sheet_of_up_to_four_parts_and_every_short_question() {
                         assert_eq!(case.agree(call, &lent).is_ok(), answerable);
                     }
                 }
+                if sound && call == Call::Subtree {
+                    for part in 0..n + 2 {
+                        lent.part = part;
+                        assert_eq!(case.agree(call, &lent).is_ok(), part < n);
+                    }
+                }
             }
         }
     }

@@ -4,7 +4,9 @@ use std::thread;
 
 use lca::{Refusal, Route, Trail, Tree};
 
-use crate::model::{carrier, common_carrier, trail, Call, Refused, Tables, MOST_PARTS};
+use crate::model::{
+    carrier, common_carrier, subtree, trail, Call, Refused, Tables, MOST_PARTS, TABLES,
+};
 use crate::support::{alter_cell, alter_length, sound_cases, Case, Damage, Length, Rng, Shape};
 
 const ROUTES: [Route; 3] = [Route::Labels, Route::Tour, Route::Lifts];
@@ -28,10 +30,12 @@ fn a_tree_has_the_sheet_s_own_tables() {
         assert_eq!(tree.label(), own.label, "{}", case.note);
         assert_eq!(tree.tour(), own.tour, "{}", case.note);
         assert_eq!(tree.lift(), own.lift, "{}", case.note);
+        assert_eq!(tree.order(), own.order, "{}", case.note);
         assert_eq!((tree.len(), tree.is_empty()), (case.n(), false));
         assert_eq!(Tree::check(&case.parents), Ok(()), "{}", case.note);
         assert_eq!(Tree::try_from(&case.parents[..]), Ok(tree.clone()));
-        let kept = Tree::from_tables(&case.parents, &own.label, &own.tour, &own.lift);
+        let (label, tour, lift) = (&own.label, &own.tour, &own.lift);
+        let kept = Tree::from_tables(&case.parents, label, tour, lift, &own.order);
         assert_eq!(kept, Ok(tree), "{}", case.note);
     }
 }
@@ -76,6 +80,21 @@ fn a_tree_s_answers_are_the_plain_model_s() {
     }
 }
 
+/// A subtree has the plain model's parts, and lies in the tree's order table: nothing is copied.
+#[test]
+fn a_tree_s_subtrees_are_stretches_of_its_order_table() {
+    for case in sound_cases(200, 1, 60) {
+        let tree = Tree::new(&case.parents).unwrap();
+        let order = &case.plain.tree.as_ref().ok().unwrap().order;
+        for part in 0..case.n() as u16 {
+            let found = tree.subtree(part).unwrap();
+            assert_eq!(found, subtree(&case.parents, order, part), "{}", case.note);
+            let (table, cells) = (tree.order().as_ptr_range(), found.as_ptr_range());
+            assert!(table.start <= cells.start && cells.end <= table.end);
+        }
+    }
+}
+
 #[test]
 fn a_tree_refuses_questions() {
     for mut case in sound_cases(60, 1, 60) {
@@ -99,6 +118,8 @@ fn a_tree_refuses_questions() {
         assert_eq!(refused(tree.list(&[])), (9, 0), "{}", case.note);
         assert_eq!(refused(tree.carrier(n as u16, 0)), (10, 0), "{}", case.note);
         assert_eq!(refused(tree.trail(0, 65_535)), (10, 1), "{}", case.note);
+        assert_eq!(refused(tree.subtree(n as u16)), (10, 0), "{}", case.note);
+        assert_eq!(refused(tree.subtree(65_535)), (10, 0), "{}", case.note);
     }
 }
 
@@ -108,7 +129,7 @@ fn no_tree_is_made_of_a_damaged_sheet() {
         let mut rng = Rng::new(!seed);
         let n = 2 + rng.below(40);
         let case = Case::damaged(seed, rng.pick(&Shape::ALL), n, rng.pick(&Damage::ALL));
-        let [label, tour, lift] = Tables::lengths(n).map(|cells| vec![0; cells]);
+        let [label, tour, lift, order] = Tables::lengths(n).map(|cells| vec![0; cells]);
         let Err(why) = case.plain.tree else {
             assert!(Tree::new(&case.parents).is_ok(), "{}", case.note);
             continue;
@@ -121,7 +142,7 @@ fn no_tree_is_made_of_a_damaged_sheet() {
             "{}",
             case.note
         );
-        let kept = Tree::from_tables(&case.parents, &label, &tour, &lift);
+        let kept = Tree::from_tables(&case.parents, &label, &tour, &lift, &order);
         assert_eq!(refused(kept), why, "{}", case.note);
     }
 }
@@ -132,11 +153,12 @@ fn no_tree_is_made_of_tables_that_are_not_the_sheet_s() {
         let mut lent = case.lent(Call::Compare);
         if case.rng.once_in(4) {
             let length = case.rng.pick(&Length::ALL);
-            alter_length(&mut lent, 1 + case.rng.below(3), length);
+            alter_length(&mut lent, case.rng.pick(&TABLES), length);
         } else {
             alter_cell(&mut lent, &mut case.rng);
         }
-        let kept = Tree::from_tables(&lent.parents, &lent.label, &lent.tour, &lent.lift);
+        let (label, tour, lift) = (&lent.label, &lent.tour, &lent.lift);
+        let kept = Tree::from_tables(&lent.parents, label, tour, lift, &lent.order);
         let why = case.plain.call(Call::Compare, &mut lent).unwrap_err();
         assert_eq!(refused(kept), why, "{}", case.note);
     }
@@ -148,11 +170,10 @@ fn no_tree_is_made_of_a_bare_or_oversize_sheet() {
         let parents = vec![0; n];
         assert_eq!(refused(Tree::new(&parents)), why);
         assert_eq!(refused(Tree::check(&parents)), why);
-        assert_eq!(refused(Tree::from_tables(&parents, &[], &[], &[])), why);
-        assert_eq!(
-            refused(Tree::from_tables(&parents, &parents, &[1], &[])),
-            why
-        );
+        let kept = Tree::from_tables(&parents, &[], &[], &[], &[]);
+        assert_eq!(refused(kept), why);
+        let kept = Tree::from_tables(&parents, &parents, &[1], &[], &[2]);
+        assert_eq!(refused(kept), why);
     }
 }
 

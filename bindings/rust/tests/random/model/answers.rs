@@ -1,4 +1,4 @@
-//! Carriers and trails, by climbing.
+//! Carriers, trails and subtrees, by climbing.
 
 use super::sheet::carriers;
 use super::tables::log;
@@ -49,6 +49,14 @@ pub fn trail(parents: &[u16], x: u16, y: u16) -> Vec<(u16, u16)> {
     }
     rows.push((up(parents, x, 1), up(parents, y, 1)));
     rows
+}
+
+/// The parts that `part` carries, in preorder: of all parts in that order, those whose climb meets it.
+pub fn subtree(parents: &[u16], order: &[u16], part: u16) -> Vec<u16> {
+    let carried = order.iter().copied();
+    carried
+        .filter(|&v| carriers(parents, v).contains(&part))
+        .collect()
 }
 
 /// The part so many steps up, staying at the root.

@@ -1,6 +1,6 @@
 //! What each call gives, and what it leaves in every buffer.
 
-use super::answers::{carrier, common_carrier, trail};
+use super::answers::{carrier, common_carrier, subtree, trail};
 use super::sheet::{not_one_tree, Refused, MOST_PARTS};
 use super::tables::{Tables, NONE};
 
@@ -14,10 +14,11 @@ pub enum Call {
     PairsByLifts,
     List,
     Trail,
+    Subtree,
 }
 
 impl Call {
-    pub const ALL: [Call; 8] = [
+    pub const ALL: [Call; 9] = [
         Call::Check,
         Call::Build,
         Call::Compare,
@@ -26,6 +27,7 @@ impl Call {
         Call::PairsByLifts,
         Call::List,
         Call::Trail,
+        Call::Subtree,
     ];
 
     /// Whether the call is lent tables to read.
@@ -35,7 +37,7 @@ impl Call {
 
     /// Whether the call is lent a question and an answer.
     pub fn answers(self) -> bool {
-        self.reads_tables() && self != Call::Compare
+        self.reads_tables() && self != Call::Compare && self != Call::Subtree
     }
 
     pub fn is_of_pairs(self) -> bool {
@@ -45,7 +47,7 @@ impl Call {
     /// Whether the call is lent the buffer of this number.
     pub fn takes(self, buffer: usize) -> bool {
         match buffer {
-            1..=3 => self != Call::Check,
+            1..=3 | 8 => self != Call::Check,
             4 => true,
             5 | 6 => self.answers(),
             _ => self == Call::Trail,
@@ -54,7 +56,10 @@ impl Call {
 }
 
 /// The numbers of the buffers.
-pub const BUFFERS: std::ops::RangeInclusive<usize> = 1..=7;
+pub const BUFFERS: std::ops::RangeInclusive<usize> = 1..=8;
+
+/// Those of the tables, as they are compared end to end.
+pub const TABLES: [usize; 4] = [1, 2, 3, 8];
 
 /// All buffers; a call takes those that it has.
 #[derive(Clone, Default)]
@@ -67,10 +72,15 @@ pub struct Lent {
     pub question: Vec<u16>,
     pub answer: Vec<u16>,
     pub trail: Vec<u16>,
+    pub order: Vec<u16>,
+    /// The part whose subtree is asked for.
+    pub part: usize,
+    /// The subtree that is handed back: the cell of the order table at which it begins, and its cells.
+    pub found: Option<(usize, Vec<u16>)>,
 }
 
 impl Lent {
-    /// The buffer of this number, 1 to 7.
+    /// The buffer of this number, 1 to 8.
     pub fn buffer(&mut self, number: usize) -> &mut Vec<u16> {
         match number {
             1 => &mut self.label,
@@ -79,14 +89,15 @@ impl Lent {
             4 => &mut self.work,
             5 => &mut self.question,
             6 => &mut self.answer,
-            _ => &mut self.trail,
+            7 => &mut self.trail,
+            _ => &mut self.order,
         }
     }
 
     /// The lowest buffer of the call without its exact length.
     fn misfit(&mut self, call: Call) -> Option<usize> {
         let n = self.parents.len();
-        let [label, tour, lift] = Tables::lengths(n);
+        let [label, tour, lift, order] = Tables::lengths(n);
         let asked = self.question.len();
         let question = match call {
             Call::List => asked,
@@ -94,7 +105,7 @@ impl Lent {
             _ => asked / 2 * 2,
         };
         let answer = if call.is_of_pairs() { asked / 2 } else { 1 };
-        let exact = [label, tour, lift, 4 * n, question, answer, 64];
+        let exact = [label, tour, lift, 4 * n, question, answer, 64, order];
         BUFFERS
             .filter(|&b| call.takes(b))
             .find(|&b| self.buffer(b).len() != exact[b - 1])
@@ -119,7 +130,7 @@ impl Plain {
         }
     }
 
-    /// The call on this sheet: its lift count or 0, or its refusal. `lent` becomes what the call leaves.
+    /// The call on this sheet: its count of lifts or of a subtree's parts, or 0; or its refusal. `lent` becomes what the call leaves.
     pub fn call(&self, call: Call, lent: &mut Lent) -> Result<u64, Refused> {
         if let Err((1 | 2, 0)) = self.tree {
             return Err(self.tree.as_ref().err().copied().unwrap());
@@ -133,6 +144,7 @@ impl Plain {
             lent.label.clone_from(&own.label);
             lent.tour.clone_from(&own.tour);
             lent.lift.clone_from(&own.lift);
+            lent.order.clone_from(&own.order);
         }
         if call.reads_tables() {
             stale(own, lent).map_or(Ok(()), Err)?;
@@ -141,14 +153,18 @@ impl Plain {
             unanswerable(lent).map_or(Ok(()), Err)?;
             return Ok(answer(call, lent));
         }
+        if call == Call::Subtree {
+            return locate(own, lent);
+        }
         Ok(0)
     }
 }
 
 /// Test 8.
 fn stale(own: &Tables, lent: &Lent) -> Option<Refused> {
-    let own = own.label.iter().chain(&own.tour).chain(&own.lift);
-    let lent = lent.label.iter().chain(&lent.tour).chain(&lent.lift);
+    let own = [&own.label, &own.tour, &own.lift, &own.order];
+    let lent = [&lent.label, &lent.tour, &lent.lift, &lent.order];
+    let (own, lent) = (own.into_iter().flatten(), lent.into_iter().flatten());
     let place = own.zip(lent).position(|(own, lent)| own != lent)?;
     Some((8, place as u64))
 }
@@ -181,4 +197,17 @@ fn answer(call: Call, lent: &mut Lent) -> u64 {
         cells.copy_from_slice(&[x, y]);
     }
     rows.len() as u64
+}
+
+/// Test 10 of a part, at 0, and its subtree: it begins where the part stands in preorder.
+fn locate(own: &Tables, lent: &mut Lent) -> Result<u64, Refused> {
+    if lent.part >= lent.parents.len() {
+        return Err((10, 0));
+    }
+    let part = lent.part as u16;
+    let cells = subtree(&lent.parents, &own.order, part);
+    let count = cells.len() as u64;
+    let start = own.order.iter().position(|&v| v == part).unwrap();
+    lent.found = Some((start, cells));
+    Ok(count)
 }

@@ -1,4 +1,4 @@
-//! The plain model itself, held to document 01: its known sheet, and rules that it states beside the definitions.
+//! The plain model itself, held to documents 01 and 02: the known sheet, and rules that they state beside the definitions.
 
 use super::*;
 use crate::support::{sound_cases, Case};
@@ -18,13 +18,18 @@ fn the_known_sheet() {
     assert_eq!(own.label[28..35], [4, 4, 6, 5, 4, 6, 7]);
     assert_eq!(own.label[35..], [NONE, NONE, 3, 0, NONE, 2, 6]);
     assert_eq!(own.tour[..13], [0, 1, 3, 1, 4, 1, 0, 2, 5, 6, 5, 2, 0]);
-    assert_eq!(Tables::lengths(7), [42, 72, 21]);
+    assert_eq!(own.order, [0, 1, 3, 4, 2, 5, 6]);
+    assert_eq!(Tables::lengths(7), [42, 72, 21, 7]);
     assert_eq!(own.label.len() + own.tour.len() + own.lift.len(), 135);
     assert_eq!(trail(&KNOWN, 6, 6), []);
     assert_eq!(trail(&KNOWN, 0, 6), [(0, 2), (0, 0)]);
     assert_eq!(trail(&KNOWN, 3, 6), [(3, 5), (1, 2), (0, 0)]);
     assert_eq!(carrier(&KNOWN, 5, 6), 5);
     assert_eq!(common_carrier(&KNOWN, &[6, 5, 2]), 2);
+    assert_eq!(subtree(&KNOWN, &own.order, 1), [1, 3, 4]);
+    assert_eq!(subtree(&KNOWN, &own.order, 2), [2, 5, 6]);
+    assert_eq!(subtree(&KNOWN, &own.order, 6), [6]);
+    assert_eq!(subtree(&KNOWN, &own.order, 0), own.order);
 }
 
 #[test]
@@ -42,6 +47,10 @@ fn the_known_refusals() {
 fn preorder_follows_its_rule() {
     for case in sound_cases(60, 1, 25) {
         let place = &own(&case).label[..case.n()];
+        let order = &own(&case).order;
+        for (v, &place) in place.iter().enumerate() {
+            assert_eq!(order[place as usize - 1] as usize, v, "{}", case.note);
+        }
         let paths: Vec<_> = (0..case.n() as u16)
             .map(|v| carriers(&case.parents, v))
             .collect();
@@ -53,6 +62,22 @@ fn preorder_follows_its_rule() {
                     None => path_u.len() < path_v.len(),
                 };
                 assert_eq!(place[u] < place[v], before, "{}", case.note);
+            }
+        }
+    }
+}
+
+/// A subtree is a stretch of the order table that begins with its part, "holding every part it carries and no other".
+#[test]
+fn a_subtree_is_a_stretch_of_the_order_table() {
+    for case in sound_cases(60, 1, 30) {
+        let order = &own(&case).order;
+        for (start, &part) in order.iter().enumerate() {
+            let found = subtree(&case.parents, order, part);
+            assert_eq!(order[start..][..found.len()], found, "{}", case.note);
+            for v in 0..case.n() as u16 {
+                let carried = carriers(&case.parents, v).contains(&part);
+                assert_eq!(found.contains(&v), carried, "{}", case.note);
             }
         }
     }

@@ -1,5 +1,5 @@
-//! A plain implementation of the library's calls, written from document 01's words alone. It climbs, scans and counts, and shares nothing
-//! with the library.
+//! A plain implementation of the library's calls, written from the words of documents 01 and 02 alone. It climbs, scans and counts, and
+//! shares nothing with the library.
 
 mod answers;
 mod calls;
@@ -7,7 +7,7 @@ mod checks;
 mod sheet;
 mod tables;
 
-pub use answers::{carrier, common_carrier, trail};
-pub use calls::{Call, Lent, Plain, BUFFERS};
+pub use answers::{carrier, common_carrier, subtree, trail};
+pub use calls::{Call, Lent, Plain, BUFFERS, TABLES};
 pub use sheet::{carriers, not_one_tree, Refused, MOST_PARTS};
 pub use tables::{log, Tables, NONE};

@@ -1,4 +1,4 @@
-//! The three tables of a sheet that is one rooted tree, each cell as its definition says.
+//! The four tables of a sheet that is one rooted tree, each cell as its definition says.
 
 use super::sheet::carriers;
 
@@ -15,6 +15,7 @@ pub struct Tables {
     pub label: Vec<u16>,
     pub tour: Vec<u16>,
     pub lift: Vec<u16>,
+    pub order: Vec<u16>,
 }
 
 impl Tables {
@@ -25,13 +26,14 @@ impl Tables {
             label: label(parents, &visits, &paths),
             tour: tour(&visits, &paths.level),
             lift: paths.lift,
+            order: order(parents),
         }
     }
 
-    /// The cells of label, tour and lift for n parts.
-    pub fn lengths(n: usize) -> [usize; 3] {
+    /// The cells of label, tour, lift and order for n parts.
+    pub fn lengths(n: usize) -> [usize; 4] {
         let t = log(2 * n - 1);
-        [6 * n, (2 * n - 1) * (t + 2) + n, n * (log(n) + 1)]
+        [6 * n, (2 * n - 1) * (t + 2) + n, n * (log(n) + 1), n]
     }
 }
 
@@ -66,19 +68,36 @@ impl Paths {
     }
 }
 
-/// The tour: down into each part's own parts, in rising number, and back after each.
-fn visits(parents: &[u16]) -> Vec<u16> {
-    let n = parents.len();
-    let mut below = vec![Vec::new(); n];
+/// The root, and for each part the parts bolted into it, in rising number.
+fn bolted(parents: &[u16]) -> (u16, Vec<Vec<u16>>) {
+    let mut below = vec![Vec::new(); parents.len()];
     let mut root = 0;
-    for v in 0..n as u16 {
+    for v in 0..parents.len() as u16 {
         if parents[v as usize] == v {
             root = v;
         } else {
             below[parents[v as usize] as usize].push(v);
         }
     }
-    let mut gone = vec![0; n];
+    (root, below)
+}
+
+/// The parts in preorder: each is followed by what is bolted into it, with all that these carry.
+fn order(parents: &[u16]) -> Vec<u16> {
+    let (root, below) = bolted(parents);
+    let mut order = Vec::new();
+    let mut waiting = vec![root];
+    while let Some(v) = waiting.pop() {
+        order.push(v);
+        waiting.extend(below[v as usize].iter().rev());
+    }
+    order
+}
+
+/// The tour: down into each part's own parts, in rising number, and back after each.
+fn visits(parents: &[u16]) -> Vec<u16> {
+    let (root, below) = bolted(parents);
+    let mut gone = vec![0; parents.len()];
     let mut here = root;
     let mut visits = vec![root];
     loop {

@@ -1,7 +1,7 @@
 //! What can be wrong with the buffers of a call.
 
 use super::Rng;
-use crate::model::{log, Call, Lent};
+use crate::model::{log, Call, Lent, TABLES};
 
 #[derive(Clone, Copy, Debug)]
 pub enum Length {
@@ -34,7 +34,7 @@ pub fn change(lent: &mut Lent, buffer: usize, cell: usize, rng: &mut Rng) {
 /// Changes one cell of a table, if the table has any: the first or last of a section as often as any other.
 pub fn alter_cell(lent: &mut Lent, rng: &mut Rng) {
     let edge = rng.pick(&edges(lent.parents.len().max(1)));
-    let buffer = 1 + rng.below(3);
+    let buffer = rng.pick(&TABLES);
     let anywhere = (buffer, rng.below(lent.buffer(buffer).len().max(1)));
     let (buffer, cell) = rng.pick(&[edge, anywhere]);
     if cell < lent.buffer(buffer).len() {
@@ -43,14 +43,14 @@ pub fn alter_cell(lent: &mut Lent, rng: &mut Rng) {
 }
 
 /// The first and the last cell of each section of the tables for n parts, as buffer and cell: of each column of labels, of the visits,
-/// of the first positions, and of each row.
+/// of the first positions, of each row, and of the order.
 pub fn edges(n: usize) -> Vec<(usize, usize)> {
     let visits = 2 * n - 1;
     let mut tour = vec![visits, n];
     tour.resize(2 + log(visits) + 1, visits);
-    let sections = [vec![n; 6], tour, vec![n; log(n) + 1]];
+    let sections = [vec![n; 6], tour, vec![n; log(n) + 1], vec![n]];
     let mut edges = Vec::new();
-    for (buffer, sections) in (1..).zip(sections) {
+    for (buffer, sections) in TABLES.into_iter().zip(sections) {
         let mut first = 0;
         for cells in sections {
             edges.push((buffer, first));
@@ -61,14 +61,21 @@ pub fn edges(n: usize) -> Vec<(usize, usize)> {
     edges
 }
 
-/// Puts a number that is no part at a random position of the question, if it has any.
+/// Puts a number that is no part at a random position of the question, if it has any, and asks for the subtree of one.
 pub fn name_no_part(lent: &mut Lent, rng: &mut Rng) {
+    lent.part = no_part(lent.parents.len(), rng);
     let n = lent.parents.len().min(65_535);
     let beyond = n + rng.below(65_536 - n);
     if !lent.question.is_empty() {
         let position = rng.below(lent.question.len());
         lent.question[position] = rng.pick(&[n, 65_535, beyond]) as u16;
     }
+}
+
+/// A number that is no part of n: the next one, one near the sheet, or one far off it, of which the last 16 or 32 bits alone would be a part.
+fn no_part(n: usize, rng: &mut Rng) -> usize {
+    let part = rng.below(n.max(1));
+    rng.pick(&[n, n + part, (1 << 16) + part, (1 << 32) + part, usize::MAX])
 }
 
 /// Asks for nothing, with an answer buffer to fit.

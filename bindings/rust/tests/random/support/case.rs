@@ -52,7 +52,7 @@ impl Case {
             Call::List => 1 + rng.below(9),
             _ => 2 * (1 + rng.below(9)),
         };
-        let [label, tour, lift] = Tables::lengths(n.max(1));
+        let [label, tour, lift, order] = Tables::lengths(n.max(1));
         let mut lent = Lent {
             parents: self.parents.clone(),
             label: rng.cells(label),
@@ -62,22 +62,28 @@ impl Case {
             question: (0..asked).map(|_| rng.below(n.max(1)) as u16).collect(),
             answer: rng.cells(if call.is_of_pairs() { asked / 2 } else { 1 }),
             trail: rng.cells(64),
+            order: rng.cells(order),
+            part: rng.below(n.max(1)),
+            found: None,
         };
         if let (true, Ok(own)) = (call.reads_tables(), &self.plain.tree) {
             lent.label.clone_from(&own.label);
             lent.tour.clone_from(&own.tour);
             lent.lift.clone_from(&own.lift);
+            lent.order.clone_from(&own.order);
         }
         lent
     }
 
-    /// The library's call gives what the plain model gives, and leaves every buffer as the model does. Gives the result.
+    /// The library's call gives what the plain model gives, hands back the same stretch of the order table if any, and leaves every buffer as
+    /// the model does. Gives the result.
     pub fn agree(&self, call: Call, lent: &Lent) -> Result<u64, Refused> {
         let mut want = lent.clone();
         let mut got = lent.clone();
         let result = self.plain.call(call, &mut want);
         let note = format!("{call:?}, {}", self.note);
         assert_eq!(run(call, &mut got), result, "{note}");
+        assert_eq!(got.found, want.found, "{note}");
         assert_same("the sheet", &got.parents, &want.parents, &note);
         for buffer in BUFFERS {
             let name = format!("buffer {buffer}");

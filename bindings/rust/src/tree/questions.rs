@@ -1,0 +1,154 @@
+//! The questions: pairs by each route, a list, a trail, a subtree.
+
+use super::{zeros, Tree};
+use crate::{calls, cells, Refusal, Route, Trail};
+
+impl Tree {
+    /// The carrier of each pair, by the route named (tests 9 to 11).
+    ///
+    /// The tables are compared once for all pairs; [`Route`] says what a further pair costs. The place of a refusal counts the listed
+    /// numbers, two to a pair.
+    ///
+    /// ```
+    /// use lca::{Refusal, Route, Tree};
+    ///
+    /// # fn main() -> Result<(), Refusal> {
+    /// let tree = Tree::new(&[0, 0, 0, 1, 1, 2, 5])?;
+    /// for route in [Route::Labels, Route::Tour, Route::Lifts] {
+    ///     assert_eq!(tree.pairs(route, &[(3, 4), (6, 6), (0, 6)])?, [1, 6, 0]);
+    /// }
+    /// let refusal = tree.pairs(Route::Tour, &[(3, 4), (0, 7)]).unwrap_err();
+    /// assert_eq!(refusal, Refusal { number: Refusal::NO_SUCH_PART, place: 3 });
+    /// # Ok(())
+    /// # }
+    /// ```
+    pub fn pairs(&self, route: Route, pairs: &[(u16, u16)]) -> Result<Vec<u16>, Refusal> {
+        let call = match route {
+            Route::Labels => calls::pairs_by_labels,
+            Route::Tour => calls::pairs_by_tour,
+            Route::Lifts => calls::pairs_by_lifts,
+        };
+        let question: Vec<u16> = pairs.iter().flat_map(|&(x, y)| [x, y]).collect();
+        let mut answer = vec![0; pairs.len()];
+        call(
+            &self.parents,
+            &self.label,
+            &self.tour,
+            &self.lift,
+            &self.order,
+            &mut self.work(),
+            &question,
+            &mut answer,
+        )?;
+        Ok(answer)
+    }
+
+    /// The carrier of each pair, by labels: after the comparison, constant time a pair.
+    pub fn pairs_by_labels(&self, pairs: &[(u16, u16)]) -> Result<Vec<u16>, Refusal> {
+        self.pairs(Route::Labels, pairs)
+    }
+
+    /// The carrier of each pair, by the tour: after the comparison, constant time a pair.
+    pub fn pairs_by_tour(&self, pairs: &[(u16, u16)]) -> Result<Vec<u16>, Refusal> {
+        self.pairs(Route::Tour, pairs)
+    }
+
+    /// The carrier of each pair, by lifts: after the comparison, up to about 2 log n + 2 steps a pair.
+    pub fn pairs_by_lifts(&self, pairs: &[(u16, u16)]) -> Result<Vec<u16>, Refusal> {
+        self.pairs(Route::Lifts, pairs)
+    }
+
+    /// The carrier of one pair, by labels.
+    ///
+    /// This is a call with one pair, and nearly all its time is the comparison of the tables: 1 µs at 64 parts and 340 µs at 16,384, where a
+    /// further pair of the same call costs 9 ns. So for more pairs there is [`pairs`](Tree::pairs).
+    pub fn carrier(&self, x: u16, y: u16) -> Result<u16, Refusal> {
+        let carriers = self.pairs_by_labels(&[(x, y)])?;
+        Ok(carriers[0])
+    }
+
+    /// The carrier of all the parts listed (tests 9 to 11).
+    ///
+    /// ```
+    /// use lca::{Refusal, Tree};
+    ///
+    /// # fn main() -> Result<(), Refusal> {
+    /// let tree = Tree::new(&[0, 0, 0, 1, 1, 2, 5])?;
+    /// assert_eq!(tree.list(&[6, 5, 2])?, 2);
+    /// assert_eq!(tree.list(&[4])?, 4);
+    /// assert_eq!(tree.list(&[]).unwrap_err().number, Refusal::NOTHING_LISTED);
+    /// # Ok(())
+    /// # }
+    /// ```
+    pub fn list(&self, parts: &[u16]) -> Result<u16, Refusal> {
+        let mut answer = [0];
+        calls::list(
+            &self.parents,
+            &self.label,
+            &self.tour,
+            &self.lift,
+            &self.order,
+            &mut self.work(),
+            parts,
+            &mut answer,
+        )?;
+        Ok(answer[0])
+    }
+
+    /// The carrier of one pair, with the trail of the lift route (tests 9 to 11).
+    pub fn trail(&self, x: u16, y: u16) -> Result<Trail, Refusal> {
+        let mut answer = [0];
+        let mut rows = [0; cells::TRAIL];
+        let lifts = calls::trail(
+            &self.parents,
+            &self.label,
+            &self.tour,
+            &self.lift,
+            &self.order,
+            &mut self.work(),
+            &[x, y],
+            &mut answer,
+            &mut rows,
+        )?;
+        let rows = rows.chunks_exact(2).take(lifts as usize);
+        Ok(Trail {
+            carrier: answer[0],
+            rows: rows.map(|row| (row[0], row[1])).collect(),
+        })
+    }
+
+    /// The subtree of a part (test 10, at 0): the parts that it carries, in preorder and itself first.
+    ///
+    /// It is a stretch of the tree's own [`order`](Tree::order), and nothing is copied. Nearly all its time is the comparison of the tables,
+    /// as with [`carrier`](Tree::carrier).
+    ///
+    /// ```
+    /// use lca::{Refusal, Tree};
+    ///
+    /// # fn main() -> Result<(), Refusal> {
+    /// let tree = Tree::new(&[0, 0, 0, 1, 1, 2, 5])?;
+    /// assert_eq!(tree.order(), [0, 1, 3, 4, 2, 5, 6]);
+    /// assert_eq!(tree.subtree(1)?, [1, 3, 4]);
+    /// assert!(std::ptr::eq(tree.subtree(1)?, &tree.order()[1..4]));
+    ///
+    /// let refusal = tree.subtree(7).unwrap_err();
+    /// assert_eq!(refusal, Refusal { number: Refusal::NO_SUCH_PART, place: 0 });
+    /// # Ok(())
+    /// # }
+    /// ```
+    pub fn subtree(&self, part: u16) -> Result<&[u16], Refusal> {
+        calls::subtree(
+            &self.parents,
+            &self.label,
+            &self.tour,
+            &self.lift,
+            &self.order,
+            &mut self.work(),
+            part.into(),
+        )
+    }
+
+    fn work(&self) -> Box<[u16]> {
+        zeros(cells::work(self.len()))
+    }
+}
