@@ -1,5 +1,6 @@
 /*
- * Prints the carrier, the lowest common ancestor, of each pair of parts on a sheet.
+ * Prints the carrier, the lowest common ancestor, of each pair of parts on a sheet, and then the parts that the first of these carriers
+ * carries: the whole assembly, itself first.
  *
  * Reads whitespace-separated numbers, 0 to 65535, from standard input: the count of parts, an entry for each part, and then the pairs.
  * examples/carrier.txt is such an input. Its output, in examples/carrier.out, is worked out by hand:
@@ -8,6 +9,7 @@
  *     3 6: carrier 0
  *     5 6: carrier 5
  *     0 6: carrier 0
+ *     1 carries 1 3 4
  *
  * A refusal by the library is printed with its number, word and place. The exit status is 0 if every pair was answered, and 1 otherwise.
  *
@@ -31,6 +33,12 @@ struct buffer {
     uint16_t *cells;
     size_t len;
     size_t room;
+};
+
+/* A sheet with its tables, and work. */
+struct lent {
+    const struct buffer *parents;
+    struct buffer label, tour, lift, order, work;
 };
 
 enum reading { READ_NUMBER, READ_END, READ_FAILED };
@@ -141,49 +149,80 @@ static int accepted(uint32_t number, uint64_t place)
     return number == LCA_ACCEPTED;
 }
 
-/* Builds the tables in `label`, `tour` and `lift`, and then asks for every pair at once. */
-static int answer_pairs(
-    const struct buffer *parents, struct buffer *label, struct buffer *tour, struct buffer *lift, struct buffer *work,
-    const struct buffer *question, struct buffer *answer)
+/* Builds the tables. */
+static int build(struct lent *t)
 {
     uint64_t value;
     uint32_t number = lca_build(
-        parents->cells, parents->len, label->cells, label->len, tour->cells, tour->len, lift->cells, lift->len,
-        work->cells, work->len, &value);
-    if (!accepted(number, value)) {
-        return 0;
-    }
-    number = lca_pairs_by_labels(
-        parents->cells, parents->len, label->cells, label->len, tour->cells, tour->len, lift->cells, lift->len,
-        work->cells, work->len, question->cells, question->len, answer->cells, answer->len, &value);
+        t->parents->cells, t->parents->len, t->label.cells, t->label.len, t->tour.cells, t->tour.len, t->lift.cells, t->lift.len,
+        t->order.cells, t->order.len, t->work.cells, t->work.len, &value);
     return accepted(number, value);
 }
 
-static int print_answers(const struct buffer *question, const struct buffer *answer)
+/* Asks for every pair at once. */
+static int answer_pairs(struct lent *t, const struct buffer *question, struct buffer *answer)
+{
+    uint64_t value;
+    uint32_t number = lca_pairs_by_labels(
+        t->parents->cells, t->parents->len, t->label.cells, t->label.len, t->tour.cells, t->tour.len, t->lift.cells, t->lift.len,
+        t->order.cells, t->order.len, t->work.cells, t->work.len, question->cells, question->len, answer->cells, answer->len, &value);
+    return accepted(number, value);
+}
+
+static void print_answers(const struct buffer *question, const struct buffer *answer)
 {
     for (size_t i = 0; i < answer->len; i++) {
         printf("%u %u: carrier %u\n", (unsigned)question->cells[2 * i], (unsigned)question->cells[2 * i + 1],
             (unsigned)answer->cells[i]);
     }
+}
+
+/* Prints the parts that a part carries. They stand in the order table, one after another. */
+static int print_carried(struct lent *t, uint16_t part)
+{
+    uint64_t first, count;
+    uint32_t number = lca_subtree(
+        t->parents->cells, t->parents->len, t->label.cells, t->label.len, t->tour.cells, t->tour.len, t->lift.cells, t->lift.len,
+        t->order.cells, t->order.len, t->work.cells, t->work.len, part, &first, &count);
+    if (!accepted(number, count)) {
+        return 0;
+    }
+    printf("%u carries", (unsigned)part);
+    for (uint64_t i = 0; i < count; i++) {
+        printf(" %u", (unsigned)t->order.cells[first + i]);
+    }
+    printf("\n");
     return 1;
+}
+
+/* Answers every pair. There is one at least, or the library has refused the question. */
+static int answer_all(struct lent *t, const struct buffer *question, struct buffer *answer)
+{
+    if (!build(t) || !answer_pairs(t, question, answer)) {
+        return 0;
+    }
+    print_answers(question, answer);
+    return print_carried(t, answer->cells[0]);
 }
 
 /* Makes the buffers for a sheet and its questions, and prints the answers. */
 static int run(const struct buffer *parents, const struct buffer *question)
 {
     size_t n = parents->len;
-    struct buffer label = {0}, tour = {0}, lift = {0}, work = {0}, answer = {0};
+    struct lent t = {.parents = parents};
+    struct buffer answer = {0};
     int done = 0;
-    if (start(&label, lca_label_cells(n)) && start(&tour, lca_tour_cells(n)) && start(&lift, lca_lift_cells(n))
-        && start(&work, lca_work_cells(n)) && start(&answer, question->len / 2)) {
-        done = answer_pairs(parents, &label, &tour, &lift, &work, question, &answer) && print_answers(question, &answer);
+    if (start(&t.label, lca_label_cells(n)) && start(&t.tour, lca_tour_cells(n)) && start(&t.lift, lca_lift_cells(n))
+        && start(&t.order, lca_order_cells(n)) && start(&t.work, lca_work_cells(n)) && start(&answer, question->len / 2)) {
+        done = answer_all(&t, question, &answer);
     } else {
         complain("out of memory");
     }
-    free(label.cells);
-    free(tour.cells);
-    free(lift.cells);
-    free(work.cells);
+    free(t.label.cells);
+    free(t.tour.cells);
+    free(t.lift.cells);
+    free(t.order.cells);
+    free(t.work.cells);
     free(answer.cells);
     return done;
 }

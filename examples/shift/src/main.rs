@@ -19,6 +19,9 @@ fn main() -> Result<(), Refusal> {
     for worn in [&[63, 64, 66, 67][..], &[50, 58, 71, 86, 91]] {
         println!("{worn:?}: carrier {}", tree.list(worn)?);
     }
+    // All that hangs below the bad arm, as it stands in the tree's own order table.
+    println!("3 carries {:?}", tree.subtree(3)?);
+
     let trail = tree.trail(63, 21)?;
     println!(
         "63 and 21: carrier {}, lifts {}, rows {:?}",
