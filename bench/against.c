@@ -20,8 +20,8 @@ static const size_t sizes[] = {64, 512, 4096, 16384};
 
 /* A sheet with its tables, and work. */
 struct lent {
-    uint16_t *parents, *label, *tour, *lift, *work;
-    size_t parts, label_cells, tour_cells, lift_cells, work_cells;
+    uint16_t *parents, *label, *tour, *lift, *order, *work;
+    size_t parts, label_cells, tour_cells, lift_cells, order_cells, work_cells;
 };
 
 static uint64_t state = UINT64_C(88172645463325252);
@@ -79,14 +79,14 @@ static uint32_t build(const struct lent *t)
 {
     uint64_t value;
     return lca_build(t->parents, t->parts, t->label, t->label_cells, t->tour, t->tour_cells, t->lift, t->lift_cells,
-                     t->work, t->work_cells, &value);
+                     t->order, t->order_cells, t->work, t->work_cells, &value);
 }
 
 static uint32_t compare(const struct lent *t)
 {
     uint64_t value;
     return lca_compare(t->parents, t->parts, t->label, t->label_cells, t->tour, t->tour_cells, t->lift, t->lift_cells,
-                       t->work, t->work_cells, &value);
+                       t->order, t->order_cells, t->work, t->work_cells, &value);
 }
 
 /* The nanoseconds of one call, over as many as take some 300 microseconds or more. */
@@ -128,12 +128,14 @@ static void measure(size_t n, int shape)
         .label_cells = lca_label_cells(n),
         .tour_cells = lca_tour_cells(n),
         .lift_cells = lca_lift_cells(n),
+        .order_cells = lca_order_cells(n),
         .work_cells = lca_work_cells(n),
     };
     t.parents = cells(n);
     t.label = cells(t.label_cells);
     t.tour = cells(t.tour_cells);
     t.lift = cells(t.lift_cells);
+    t.order = cells(t.order_cells);
     t.work = cells(t.work_cells);
     fill_sheet(t.parents, n, shape);
     double built = quartile(build, &t);
@@ -142,6 +144,7 @@ static void measure(size_t n, int shape)
     free(t.label);
     free(t.tour);
     free(t.lift);
+    free(t.order);
     free(t.work);
 }
 

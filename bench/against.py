@@ -1,10 +1,11 @@
 #!/usr/bin/env python3
 """Two builds of the library by turns: how much the second one's compare and build take more or less than the first one's.
 
-    against.py OLD.a NEW.a [RUNS]
+    against.py OLD NEW [RUNS]
 
-OLD.a and NEW.a are archives of `rt staticlib lca` with the same interface, that of include/lca.h. Each is linked with bench/against.c, and both programs are run
-RUNS times (11), by turns. A row has the medians over the runs.
+OLD and NEW are archives of `rt staticlib lca` with this checkout's interface, or the tops of checkouts in which it was run: such a one is linked with its own
+include/lca.h and bench/against.c, so that builds of other interfaces can be compared too. Both programs are run RUNS times (11), by turns. A row has the medians
+over the runs.
 """
 import os
 import statistics
@@ -15,10 +16,13 @@ import tempfile
 TOP = os.path.dirname(os.path.dirname(os.path.abspath(__file__)))
 
 
-def link(archive, program):
-    """The program of bench/against.c with this archive."""
-    words = ['cc', '-std=c99', '-Wall', '-Wextra', '-O2', '-I' + os.path.join(TOP, 'include')]
-    subprocess.run(words + [os.path.join(TOP, 'bench', 'against.c'), archive, '-o', program], check=True)
+def link(build, program):
+    """The program of bench/against.c with this archive, or with that of this checkout."""
+    top, archive = TOP, build
+    if os.path.isdir(build):
+        top, archive = build, os.path.join(build, 'target', 'staticlib', 'liblca.a')
+    words = ['cc', '-std=c99', '-Wall', '-Wextra', '-O2', '-I' + os.path.join(top, 'include')]
+    subprocess.run(words + [os.path.join(top, 'bench', 'against.c'), archive, '-o', program], check=True)
 
 
 def run(program):
@@ -35,8 +39,8 @@ def medians(runs, sheet):
 def main(old, new, count):
     with tempfile.TemporaryDirectory() as folder:
         programs = [os.path.join(folder, name) for name in ('old', 'new')]
-        for archive, program in zip((old, new), programs):
-            link(archive, program)
+        for build, program in zip((old, new), programs):
+            link(build, program)
         runs = [[], []]
         for turn in range(count):
             for which in ((0, 1) if turn % 2 == 0 else (1, 0)):

@@ -9,6 +9,7 @@ pub struct Buffers {
     pub label: Vec<u16>,
     pub tour: Vec<u16>,
     pub lift: Vec<u16>,
+    pub order: Vec<u16>,
     pub work: Vec<u16>,
 }
 
@@ -20,27 +21,32 @@ impl Buffers {
             label: vec![0; cells::label(n)],
             tour: vec![0; cells::tour(n)],
             lift: vec![0; cells::lift(n)],
+            order: vec![0; cells::order(n)],
             work: vec![0; cells::work(n)],
             parents,
         }
     }
 
-    /// Label, tour and lift.
-    pub fn tables(&self) -> [&[u16]; 3] {
-        [&self.label, &self.tour, &self.lift]
+    /// Label, tour, lift and order.
+    pub fn tables(&self) -> [&[u16]; 4] {
+        [&self.label, &self.tour, &self.lift, &self.order]
     }
 
-    /// Label, tour, lift and work, to be filled.
-    pub fn lent(&mut self) -> [&mut Vec<u16>; 4] {
+    /// Label, tour, lift, order and work, to be filled.
+    pub fn lent(&mut self) -> [&mut Vec<u16>; 5] {
         [
             &mut self.label,
             &mut self.tour,
             &mut self.lift,
+            &mut self.order,
             &mut self.work,
         ]
     }
 
-    /// Cells of the three tables.
+    /// The numbers of these in a misfit.
+    pub const NUMBERS: [u64; 5] = [1, 2, 3, 8, 4];
+
+    /// Cells of the four tables.
     pub fn table_cells(&self) -> usize {
         self.tables().iter().map(|table| table.len()).sum()
     }

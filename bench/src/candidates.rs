@@ -4,17 +4,25 @@ use crate::fast;
 
 /// What a call gives: a trail's lifts (0 for any other call), or number and place of a refusal.
 pub type Outcome = Result<u64, (u32, u64)>;
+/// What a subtree call gives: a stretch of the order table.
+pub type Stretch<'a> = Result<&'a [u16], (u32, u64)>;
+
+/// Cells that are read, and cells that are written.
+type In<'a> = &'a [u16];
+type Out<'a> = &'a mut [u16];
+
 /// parents, work
-pub type Check = fn(&[u16], &mut [u16]) -> Outcome;
-/// parents, label, tour, lift, work
-pub type Build = fn(&[u16], &mut [u16], &mut [u16], &mut [u16], &mut [u16]) -> Outcome;
-/// parents, label, tour, lift, work
-pub type Compare = fn(&[u16], &[u16], &[u16], &[u16], &mut [u16]) -> Outcome;
-/// parents, label, tour, lift, work, question, answer
-pub type Ask = fn(&[u16], &[u16], &[u16], &[u16], &mut [u16], &[u16], &mut [u16]) -> Outcome;
-/// parents, label, tour, lift, work, question, answer, trail
-pub type Trail =
-    fn(&[u16], &[u16], &[u16], &[u16], &mut [u16], &[u16], &mut [u16], &mut [u16]) -> Outcome;
+pub type Check = fn(In, Out) -> Outcome;
+/// parents, label, tour, lift, order, work
+pub type Build = fn(In, Out, Out, Out, Out, Out) -> Outcome;
+/// parents, label, tour, lift, order, work
+pub type Compare = fn(In, In, In, In, In, Out) -> Outcome;
+/// parents, label, tour, lift, order, work, question, answer
+pub type Ask = fn(In, In, In, In, In, Out, In, Out) -> Outcome;
+/// parents, label, tour, lift, order, work, question, answer, trail
+pub type Trail = fn(In, In, In, In, In, Out, In, Out, Out) -> Outcome;
+/// parents, label, tour, lift, order, work, part
+pub type Subtree = for<'a> fn(In, In, In, In, In<'a>, Out, usize) -> Stretch<'a>;
 
 pub struct Calls {
     pub check: Check,
@@ -24,6 +32,7 @@ pub struct Calls {
     pub pairs: [Ask; 3],
     pub list: Ask,
     pub trail: Trail,
+    pub subtree: Subtree,
 }
 
 pub const ROUTES: [&str; 3] = ["labels", "tour", "lifts"];
@@ -33,8 +42,8 @@ macro_rules! calls {
         use $from as from;
         macro_rules! ask {
             ($call:path) => {
-                |p, a, b, c, w, q, z| {
-                    $call(p, a, b, c, w, q, z)
+                |p, a, b, c, o, w, q, z| {
+                    $call(p, a, b, c, o, w, q, z)
                         .map(|()| 0)
                         .map_err(|r| (r.number, r.place))
                 }
@@ -46,13 +55,13 @@ macro_rules! calls {
                     .map(|()| 0)
                     .map_err(|r| (r.number, r.place))
             },
-            build: |p, a, b, c, w| {
-                from::build(p, a, b, c, w)
+            build: |p, a, b, c, o, w| {
+                from::build(p, a, b, c, o, w)
                     .map(|()| 0)
                     .map_err(|r| (r.number, r.place))
             },
-            compare: |p, a, b, c, w| {
-                from::compare(p, a, b, c, w)
+            compare: |p, a, b, c, o, w| {
+                from::compare(p, a, b, c, o, w)
                     .map(|()| 0)
                     .map_err(|r| (r.number, r.place))
             },
@@ -62,8 +71,11 @@ macro_rules! calls {
                 ask!(from::pairs_by_lifts),
             ],
             list: ask!(from::list),
-            trail: |p, a, b, c, w, q, z, t| {
-                from::trail(p, a, b, c, w, q, z, t).map_err(|r| (r.number, r.place))
+            trail: |p, a, b, c, o, w, q, z, t| {
+                from::trail(p, a, b, c, o, w, q, z, t).map_err(|r| (r.number, r.place))
+            },
+            subtree: |p, a, b, c, o, w, part| {
+                from::subtree(p, a, b, c, o, w, part).map_err(|r| (r.number, r.place))
             },
         }
     }};

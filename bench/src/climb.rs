@@ -33,6 +33,14 @@ pub fn pairs(parents: &[u16], question: &[u16]) -> Vec<u16> {
         .collect()
 }
 
+/// Whether the climb from v meets `part`.
+pub fn meets(parents: &[u16], mut v: u16, part: u16) -> bool {
+    while v != part && parents[v as usize] != v {
+        v = parents[v as usize];
+    }
+    v == part
+}
+
 /// The carrier of all the listed parts, one after another.
 pub fn list(parents: &[u16], question: &[u16]) -> Option<u16> {
     question.iter().copied().reduce(|x, y| lca(parents, x, y))

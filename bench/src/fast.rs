@@ -1,6 +1,7 @@
 //! The library's calls once more, in safe Rust: the same tests in the same order, the same tables, the same effect on every buffer, and
 //! nothing shared with the proved code. Written for speed. No call allocates; all scratch is the lent `work`.
 #![forbid(unsafe_code)]
+#![allow(clippy::too_many_arguments)] // One for each buffer.
 
 mod by_labels;
 mod by_lifts;
@@ -9,10 +10,11 @@ mod check;
 mod label;
 mod lift;
 mod locate;
+mod order;
 mod routes;
 mod tour;
 
-pub use routes::{list, pairs_by_labels, pairs_by_lifts, pairs_by_tour, trail};
+pub use routes::{list, pairs_by_labels, pairs_by_lifts, pairs_by_tour, subtree, trail};
 
 /// The most parts of a sheet.
 pub const MOST: usize = 16_384;
@@ -82,13 +84,23 @@ pub(crate) fn count(parents: &[u16]) -> Result<usize, Refusal> {
     }
 }
 
-/// Tests 1 to 3 for a sheet with tables and work.
-pub(crate) fn fits(parents: &[u16], tables: [usize; 3], work: usize) -> Result<usize, Refusal> {
+/// The order table's number. Those of question, answer and trail are lower.
+const ORDER: usize = 8;
+
+/// Tests 1 to 3 for a sheet with tables and work; `further` is the lowest buffer of question, answer and trail that misfits.
+pub(crate) fn fits(
+    parents: &[u16],
+    tables: [&[u16]; 4],
+    work: &[u16],
+    further: Option<usize>,
+) -> Result<usize, Refusal> {
     let n = count(parents)?;
-    let [label, tour, lift] = tables;
-    let mut lent = lengths(n).into_iter().zip([label, tour, lift, work]);
-    match lent.position(|(wanted, has)| wanted != has) {
-        Some(at) => refuse(3, at + 1),
+    let [label, tour, lift, order] = tables.map(<[u16]>::len);
+    let mut lent = lengths(n).into_iter().zip([label, tour, lift, work.len()]);
+    let lower = lent.position(|(wanted, has)| wanted != has);
+    let misfit = lower.map(|at| at + 1).or(further);
+    match misfit.or((order != n).then_some(ORDER)) {
+        Some(buffer) => refuse(3, buffer),
         None => Ok(n),
     }
 }
@@ -104,19 +116,21 @@ pub fn check(parents: &[u16], work: &mut [u16]) -> Result<(), Refusal> {
     outcome
 }
 
-/// Fills the three tables with the sheet's own.
+/// Fills the four tables with the sheet's own.
 pub fn build(
     parents: &[u16],
     label: &mut [u16],
     tour: &mut [u16],
     lift: &mut [u16],
+    order: &mut [u16],
     work: &mut [u16],
 ) -> Result<(), Refusal> {
-    let n = fits(parents, [label.len(), tour.len(), lift.len()], work.len())?;
+    let n = fits(parents, [label, tour, lift, order], work, None)?;
     let outcome = check::root(parents).and_then(|root| {
         label::fill(parents, root, label, work)?;
         tour::fill(parents, label, tour, work);
         lift::fill(parents, root, label::deepest(label, n), lift);
+        order::fill(&label[..n], order);
         Ok(())
     });
     work.fill(0);
@@ -129,16 +143,27 @@ pub fn compare(
     label: &[u16],
     tour: &[u16],
     lift: &[u16],
+    order: &[u16],
     work: &mut [u16],
 ) -> Result<(), Refusal> {
-    fits(parents, [label.len(), tour.len(), lift.len()], work.len())?;
-    let outcome = own(parents, [label, tour, lift], work);
+    admit_tables(parents, [label, tour, lift, order], work, None).map(|_| ())
+}
+
+/// Tests 1 to 8, and work is cleared; `further` as in `fits`. Gives the count of parts.
+pub(crate) fn admit_tables(
+    parents: &[u16],
+    tables: [&[u16]; 4],
+    work: &mut [u16],
+    further: Option<usize>,
+) -> Result<usize, Refusal> {
+    let n = fits(parents, tables, work, further)?;
+    let outcome = own(parents, tables, work);
     work.fill(0);
-    outcome
+    outcome.map(|()| n)
 }
 
 /// Tests 4 to 8; `work` is left as it comes.
-pub(crate) fn own(parents: &[u16], tables: [&[u16]; 3], work: &mut [u16]) -> Result<(), Refusal> {
+fn own(parents: &[u16], tables: [&[u16]; 4], work: &mut [u16]) -> Result<(), Refusal> {
     let root = check::root(parents)?;
     if certify::holds(parents, root, tables, work) {
         return Ok(());

@@ -54,6 +54,7 @@ fn build(calls: &Calls, s: &mut State) {
         &mut b.label,
         &mut b.tour,
         &mut b.lift,
+        &mut b.order,
         &mut b.work,
     ));
 }
@@ -65,18 +66,20 @@ fn compare(calls: &Calls, s: &mut State) {
         &b.label,
         &b.tour,
         &b.lift,
+        &b.order,
         &mut b.work,
     ));
 }
 
 fn pairs(calls: &Calls, route: usize, count: usize, s: &mut State) {
     let (b, question, answer) = (&mut s.own, &s.question[..2 * count], &mut s.answer[..count]);
-    let (label, tour, lift) = (&b.label, &b.tour, &b.lift);
+    let [label, tour, lift, order] = [&b.label, &b.tour, &b.lift, &b.order];
     accepted((calls.pairs[route])(
         &b.parents,
         label,
         tour,
         lift,
+        order,
         &mut b.work,
         question,
         answer,
@@ -85,12 +88,13 @@ fn pairs(calls: &Calls, route: usize, count: usize, s: &mut State) {
 
 fn list(calls: &Calls, s: &mut State) {
     let (b, question, answer) = (&mut s.own, &s.question[..LISTED], &mut s.answer[..1]);
-    let (label, tour, lift) = (&b.label, &b.tour, &b.lift);
+    let [label, tour, lift, order] = [&b.label, &b.tour, &b.lift, &b.order];
     accepted((calls.list)(
         &b.parents,
         label,
         tour,
         lift,
+        order,
         &mut b.work,
         question,
         answer,
@@ -99,17 +103,25 @@ fn list(calls: &Calls, s: &mut State) {
 
 fn trail(calls: &Calls, s: &mut State) {
     let (b, question, answer) = (&mut s.own, &s.question[..2], &mut s.answer[..1]);
-    let (label, tour, lift, rows) = (&b.label, &b.tour, &b.lift, &mut s.trail);
+    let [label, tour, lift, order] = [&b.label, &b.tour, &b.lift, &b.order];
     accepted((calls.trail)(
         &b.parents,
         label,
         tour,
         lift,
+        order,
         &mut b.work,
         question,
         answer,
-        rows,
+        &mut s.trail,
     ));
+}
+
+fn subtree(calls: &Calls, s: &mut State) {
+    let (b, part) = (&mut s.own, s.question[0] as usize);
+    let [label, tour, lift, order] = [&b.label, &b.tour, &b.lift, &b.order];
+    let found = (calls.subtree)(&b.parents, label, tour, lift, order, &mut b.work, part);
+    black_box(found).expect("the call is accepted");
 }
 
 fn byte_compare(s: &mut State) {
@@ -120,6 +132,7 @@ fn memory_copy(s: &mut State) {
     s.copy.label.copy_from_slice(&s.own.label);
     s.copy.tour.copy_from_slice(&s.own.tour);
     s.copy.lift.copy_from_slice(&s.own.lift);
+    s.copy.order.copy_from_slice(&s.own.order);
     black_box(&mut s.copy);
 }
 
@@ -220,6 +233,7 @@ pub fn sheet(budget: Budget, n: usize, shape: Shape) -> Sheet {
     }
     figures.push(both(budget, state, "trail", trail, Some(climb_pair)));
     figures.push(both(budget, state, "list of 100", list, Some(climb_list)));
+    figures.push(both(budget, state, "subtree", subtree, None));
     Sheet {
         n,
         shape,

@@ -1,6 +1,8 @@
 //! Before anything is measured: both implementations give the same results and leave the same buffers, on accepted and refused input, and
 //! the answers are the plain climber's.
 
+use std::fmt::Debug;
+
 use crate::buffers::Buffers;
 use crate::candidates::{Ask, Calls, Outcome, PROVED, ROUTES, RUST};
 use crate::climb;
@@ -9,11 +11,11 @@ use crate::sheets::{parts, random, Draw};
 type Checked<T = ()> = Result<T, String>;
 
 /// One call of each implementation on copies of the same state; both results and both states must agree.
-fn same<S: Clone + PartialEq>(
+fn same<S: Clone + PartialEq, R: PartialEq + Debug>(
     what: &str,
     state: &S,
-    call: impl Fn(&Calls, &mut S) -> Outcome,
-) -> Checked<(Outcome, S)> {
+    call: impl Fn(&Calls, &mut S) -> R,
+) -> Checked<(R, S)> {
     let [(proved, left), (rust, right)] = [&PROVED, &RUST].map(|calls| {
         let mut state = state.clone();
         (call(calls, &mut state), state)
@@ -27,7 +29,7 @@ fn same<S: Clone + PartialEq>(
     }
 }
 
-fn expect<T: PartialEq + std::fmt::Debug>(what: &str, got: T, wanted: T) -> Checked {
+fn expect<T: PartialEq + Debug>(what: &str, got: T, wanted: T) -> Checked {
     if got == wanted {
         Ok(())
     } else {
@@ -45,8 +47,8 @@ fn tables(what: &str, parents: &[u16], draw: &mut Draw) -> Checked<Option<Buffer
         (calls.check)(&b.parents, &mut b.work)
     })?;
     let (built, own) = same(&format!("{what}, build"), &before, |calls, b| {
-        let tables = (&mut b.label, &mut b.tour, &mut b.lift);
-        (calls.build)(&b.parents, tables.0, tables.1, tables.2, &mut b.work)
+        let (label, tour, lift) = (&mut b.label, &mut b.tour, &mut b.lift);
+        (calls.build)(&b.parents, label, tour, lift, &mut b.order, &mut b.work)
     })?;
     expect(&format!("{what}, build"), built, checked)?;
     let compared = compare(what, &before)?;
@@ -64,7 +66,8 @@ fn tables(what: &str, parents: &[u16], draw: &mut Draw) -> Checked<Option<Buffer
 
 fn compare(what: &str, buffers: &Buffers) -> Checked<Outcome> {
     let call = |calls: &Calls, b: &mut Buffers| {
-        (calls.compare)(&b.parents, &b.label, &b.tour, &b.lift, &mut b.work)
+        let (label, tour, lift) = (&b.label, &b.tour, &b.lift);
+        (calls.compare)(&b.parents, label, tour, lift, &b.order, &mut b.work)
     };
     Ok(same(&format!("{what}, compare"), buffers, call)?.0)
 }
@@ -73,12 +76,12 @@ fn compare(what: &str, buffers: &Buffers) -> Checked<Outcome> {
 fn damaged(what: &str, own: &Buffers, times: usize, draw: &mut Draw) -> Checked {
     for time in 0..times {
         let mut bad = own.clone();
-        let before: usize = own.tables()[..time % 3]
+        let before: usize = own.tables()[..time % 4]
             .iter()
             .map(|table| table.len())
             .sum();
-        let table = bad.lent().into_iter().nth(time % 3);
-        let table = table.expect("there are three");
+        let table = bad.lent().into_iter().nth(time % 4);
+        let table = table.expect("there are four");
         let at = draw.below(table.len());
         let right = table[at];
         let others = [right.wrapping_add(1), 0, 65_535, draw.below(65_536) as u16];
@@ -89,7 +92,7 @@ fn damaged(what: &str, own: &Buffers, times: usize, draw: &mut Draw) -> Checked 
         } else {
             Ok(0)
         };
-        let what = format!("{what}, cell {at} of table {} changed", time % 3 + 1);
+        let what = format!("{what}, cell {at} of table {} changed", time % 4 + 1);
         expect(&what, compare(&what, &bad)?, wanted)?;
     }
     Ok(())
@@ -97,13 +100,17 @@ fn damaged(what: &str, own: &Buffers, times: usize, draw: &mut Draw) -> Checked 
 
 /// Buffers that are a cell too long or too short.
 fn misfits(what: &str, own: &Buffers) -> Checked {
-    for buffer in 0..4 {
+    for (at, number) in Buffers::NUMBERS.into_iter().enumerate() {
         for longer in [false, true] {
             let mut bad = own.clone();
-            let cells = bad.lent().into_iter().nth(buffer).expect("there are four");
+            let cells = bad.lent().into_iter().nth(at).expect("there are five");
             cells.resize(cells.len() + 2 * longer as usize - 1, 7);
-            let what = format!("{what}, buffer {} misfits", buffer + 1);
-            expect(&what, compare(&what, &bad)?, Err((3, buffer as u64 + 1)))?;
+            let what = format!("{what}, buffer {number} misfits");
+            expect(&what, compare(&what, &bad)?, Err((3, number)))?;
+            expect(&what, subtree(&what, &bad, 0)?, Err((3, number)))?;
+            // The answer is buffer 6, and has a cell too many.
+            let asked = ask(&what, &bad, &[0, 0], 2, BY_ROUTE[0])?.0;
+            expect(&what, asked, Err((3, number.min(6))))?;
         }
     }
     Ok(())
@@ -119,8 +126,9 @@ fn ask(
 ) -> Checked<(Outcome, Vec<u16>)> {
     let state = (own.clone(), vec![7; cells]);
     let (outcome, (_, answer)) = same(what, &state, |calls, (b, answer)| {
-        let (label, tour, lift) = (&b.label, &b.tour, &b.lift);
-        call(calls)(&b.parents, label, tour, lift, &mut b.work, question, answer)
+        let [label, tour, lift, order] = [&b.label, &b.tour, &b.lift, &b.order];
+        let (parents, work) = (&b.parents, &mut b.work);
+        call(calls)(parents, label, tour, lift, order, work, question, answer)
     })?;
     Ok((outcome, answer))
 }
@@ -151,23 +159,43 @@ fn answers(what: &str, own: &Buffers, question: &[u16]) -> Checked {
 fn trail(what: &str, own: &Buffers, pair: &[u16], carrier: u16) -> Checked {
     let state = (own.clone(), vec![7; 1], vec![7; lca::cells::TRAIL]);
     let (outcome, (_, answer, rows)) = same(what, &state, |calls, (b, answer, rows)| {
-        let (label, tour, lift) = (&b.label, &b.tour, &b.lift);
-        (calls.trail)(
-            &b.parents,
-            label,
-            tour,
-            lift,
-            &mut b.work,
-            pair,
-            answer,
-            rows,
-        )
+        let [label, tour, lift, order] = [&b.label, &b.tour, &b.lift, &b.order];
+        let (parents, work) = (&b.parents, &mut b.work);
+        (calls.trail)(parents, label, tour, lift, order, work, pair, answer, rows)
     })?;
     let lifts = rows
         .chunks_exact(2)
         .filter(|row| row[0] != lca::cells::NO_CELL)
         .count();
     expect(what, (outcome, answer), (Ok(lifts as u64), vec![carrier]))
+}
+
+/// Where a part's subtree stands in the order table, by addresses, and its count; or the refusal.
+fn subtree(what: &str, own: &Buffers, part: usize) -> Checked<Result<(usize, usize), (u32, u64)>> {
+    let found = same(what, own, |calls, b| {
+        let [label, tour, lift, order] = [&b.label, &b.tour, &b.lift, &b.order];
+        let found = (calls.subtree)(&b.parents, label, tour, lift, order, &mut b.work, part)?;
+        let bytes = found.as_ptr() as usize - order.as_ptr() as usize;
+        Ok((bytes / size_of::<u16>(), found.len()))
+    });
+    Ok(found?.0)
+}
+
+/// Subtrees of some parts, against those that the climber finds to be carried by them, and of numbers that are no parts.
+fn subtrees(what: &str, own: &Buffers, parts: &[u16]) -> Checked {
+    let n = own.parents.len();
+    for &part in parts {
+        let what = format!("{what}, subtree of {part}");
+        let found = subtree(&what, own, part as usize)?;
+        let carried = |v: &&u16| climb::meets(&own.parents, **v, part);
+        let wanted: Vec<u16> = own.order.iter().filter(carried).copied().collect();
+        let cells = found.map(|(first, count)| &own.order[first..][..count]);
+        expect(&what, cells, Ok(&wanted[..]))?;
+        for off in [n, n + part as usize, 65_536 + part as usize, usize::MAX] {
+            expect(&what, subtree(&what, own, off)?, Err((10, 0)))?;
+        }
+    }
+    Ok(())
 }
 
 /// Questions of none, of an odd count, with an answer that misfits and with a number that is no part.
@@ -205,7 +233,11 @@ fn sheet(what: &str, parents: &[u16], draw: &mut Draw) -> Checked {
     let Some(own) = tables(what, parents, draw)? else {
         return Ok(());
     };
-    answers(what, &own, &parts(200, parents.len(), draw))?;
+    let question = parts(200, parents.len(), draw);
+    answers(what, &own, &question)?;
+    // The climber takes long on a long chain.
+    let few = if parents.len() > 1_000 { 3 } else { 20 };
+    subtrees(what, &own, &question[..few])?;
     refused_questions(what, &own, draw)?;
     misfits(what, &own)?;
     damaged(what, &own, 30, draw)

@@ -2,13 +2,13 @@
 //! On a sheet with one root only the right cells meet that, so no order of the nodes is needed; and levels that rise by one at every step
 //! rule a loop out.
 
-use super::{gather, label, lift, log2, mask, tour, NO_CELL};
+use super::{gather, label, lift, log2, mask, order, tour, NO_CELL};
 
 /// Whether the sheet (in range, with this one root) is a tree and the tables are its own.
 pub fn holds(
     parents: &[u16],
     root: u16,
-    [label, tour, lift]: [&[u16]; 3],
+    [label, tour, lift, order]: [&[u16]; 4],
     work: &mut [u16],
 ) -> bool {
     let n = parents.len();
@@ -23,6 +23,7 @@ pub fn holds(
             tour::rows_hold(rows, levels)
         }
         && lift::holds(parents, root, label::deepest(label, n), lift)
+        && order::holds(&label[..n], order)
 }
 
 /// PREORDER, SIZE and LEVEL.

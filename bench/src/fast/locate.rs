@@ -1,20 +1,25 @@
 //! The first cell that isn't the sheet's own, in tables of which one is known to be wrong. Sections are made in `work`, one after another;
 //! those passed are right and may be read.
 
-use super::{label, log2, tour, NO_CELL};
+use super::{label, log2, order, tour, NO_CELL};
 
 /// The place of the first difference, the tables end to end; the sheet is a tree.
 #[cold]
 pub fn first_difference(
     parents: &[u16],
     root: u16,
-    [label, tour, lift]: [&[u16]; 3],
+    [label, tour, lift, order]: [&[u16]; 4],
     work: &mut [u16],
 ) -> usize {
+    let (third, fourth) = (
+        label.len() + tour.len(),
+        label.len() + tour.len() + lift.len(),
+    );
     in_label(parents, root, label, work)
         .or_else(|| in_tour(parents, label, tour, work).map(|at| label.len() + at))
-        .or_else(|| in_lift(parents, lift).map(|at| label.len() + tour.len() + at))
-        .unwrap_or(label.len() + tour.len() + lift.len())
+        .or_else(|| in_lift(parents, lift).map(|at| third + at))
+        .or_else(|| in_order(label, order, work).map(|at| fourth + at))
+        .unwrap_or(fourth + order.len())
 }
 
 fn differs<'a>(lent: &[u16], own: impl IntoIterator<Item = &'a u16>) -> Option<usize> {
@@ -101,4 +106,10 @@ fn in_lift(parents: &[u16], lift: &[u16]) -> Option<usize> {
         let last = &lift[(i / n - 1) * n..][..n];
         lift[i] != last[last[i % n] as usize]
     })
+}
+
+fn in_order(label: &[u16], order: &[u16], work: &mut [u16]) -> Option<usize> {
+    let n = order.len();
+    order::fill(&label[..n], &mut work[..n]);
+    differs(order, &work[..n])
 }

@@ -1,24 +1,18 @@
-//! The calls that answer: pairs by each route, a list, and the trail of one pair.
+//! The calls that answer: pairs by each route, a list, the trail of one pair, and the subtree of one part.
 
 use super::by_labels::Labels;
 use super::by_lifts::{raise, traced, AT_ONCE};
-use super::{fits, label, log2, own, refuse, tour, Refusal, NO_CELL, TRAIL_CELLS};
+use super::{admit_tables, label, log2, refuse, tour, Refusal, NO_CELL, TRAIL_CELLS};
 
-/// Tests 1 to 10; `misfit` is the lowest buffer above work that misfits.
+/// Tests 1 to 10; `misfit` is the lowest buffer of question, answer and trail that misfits.
 fn admit(
     parents: &[u16],
-    tables: [&[u16]; 3],
+    tables: [&[u16]; 4],
     work: &mut [u16],
     question: &[u16],
     misfit: Option<usize>,
 ) -> Result<(), Refusal> {
-    let n = fits(parents, tables.map(<[u16]>::len), work.len())?;
-    if let Some(buffer) = misfit {
-        return refuse(3, buffer);
-    }
-    let outcome = own(parents, tables, work);
-    work.fill(0);
-    outcome?;
+    let n = admit_tables(parents, tables, work, misfit)?;
     if question.is_empty() {
         return refuse(9, 0);
     }
@@ -44,12 +38,13 @@ pub fn pairs_by_labels(
     label: &[u16],
     tour: &[u16],
     lift: &[u16],
+    order: &[u16],
     work: &mut [u16],
     question: &[u16],
     answer: &mut [u16],
 ) -> Result<(), Refusal> {
     let misfit = pairs_misfit(question, answer);
-    admit(parents, [label, tour, lift], work, question, misfit)?;
+    admit(parents, [label, tour, lift, order], work, question, misfit)?;
     let labels = Labels::new(parents, label);
     for (pair, z) in question.chunks_exact(2).zip(answer) {
         *z = labels.lca(pair[0], pair[1]);
@@ -63,12 +58,13 @@ pub fn pairs_by_tour(
     label: &[u16],
     tour: &[u16],
     lift: &[u16],
+    order: &[u16],
     work: &mut [u16],
     question: &[u16],
     answer: &mut [u16],
 ) -> Result<(), Refusal> {
     let misfit = pairs_misfit(question, answer);
-    admit(parents, [label, tour, lift], work, question, misfit)?;
+    admit(parents, [label, tour, lift, order], work, question, misfit)?;
     let n = parents.len();
     let [e, r, rows] = tour::sections(tour, n);
     let level = &label[2 * n..3 * n];
@@ -94,12 +90,13 @@ pub fn pairs_by_lifts(
     label: &[u16],
     tour: &[u16],
     lift: &[u16],
+    order: &[u16],
     work: &mut [u16],
     question: &[u16],
     answer: &mut [u16],
 ) -> Result<(), Refusal> {
     let misfit = pairs_misfit(question, answer);
-    admit(parents, [label, tour, lift], work, question, misfit)?;
+    admit(parents, [label, tour, lift, order], work, question, misfit)?;
     let n = parents.len();
     let level = &label[2 * n..3 * n];
     // Rows that pass the deepest level raise every node to the root, and change no answer.
@@ -124,12 +121,13 @@ pub fn list(
     label: &[u16],
     tour: &[u16],
     lift: &[u16],
+    order: &[u16],
     work: &mut [u16],
     question: &[u16],
     answer: &mut [u16],
 ) -> Result<(), Refusal> {
     let misfit = (answer.len() != 1).then_some(6);
-    admit(parents, [label, tour, lift], work, question, misfit)?;
+    admit(parents, [label, tour, lift, order], work, question, misfit)?;
     let pre = &label[..parents.len()];
     let (mut low, mut high) = (question[0], question[0]);
     for &x in question {
@@ -149,12 +147,12 @@ pub fn list(
 }
 
 /// The carrier of one pair, its trail in `rows` and the count of lifts.
-#[allow(clippy::too_many_arguments)]
 pub fn trail(
     parents: &[u16],
     label: &[u16],
     tour: &[u16],
     lift: &[u16],
+    order: &[u16],
     work: &mut [u16],
     question: &[u16],
     answer: &mut [u16],
@@ -169,10 +167,28 @@ pub fn trail(
         .iter()
         .position(|(has, want)| has != want)
         .map(|at| at + 5);
-    admit(parents, [label, tour, lift], work, question, misfit)?;
+    admit(parents, [label, tour, lift, order], work, question, misfit)?;
     rows.fill(NO_CELL);
     let level = &label[2 * parents.len()..3 * parents.len()];
     let (carrier, lifts) = traced(lift, level, question[0], question[1], rows);
     answer[0] = carrier;
     Ok(lifts)
+}
+
+/// The parts that a part carries, in preorder: a stretch of the order table.
+pub fn subtree<'a>(
+    parents: &[u16],
+    label: &[u16],
+    tour: &[u16],
+    lift: &[u16],
+    order: &'a [u16],
+    work: &mut [u16],
+    part: usize,
+) -> Result<&'a [u16], Refusal> {
+    let n = admit_tables(parents, [label, tour, lift, order], work, None)?;
+    if part >= n {
+        return refuse(10, 0);
+    }
+    let (first, count) = (label[part] as usize - 1, label[n + part] as usize);
+    Ok(&order[first..][..count])
 }
