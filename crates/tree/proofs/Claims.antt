@@ -27,7 +27,7 @@ use Rattle.tree.proofs.Preorders.{preorder-meets, preorder-only}
 use Rattle.tree.proofs.Inlabels.{MostZeros, size-pos, inlabel-most, inlabel-formula}
 use Rattle.tree.proofs.Intervals.{carried-from, carried-to, interval-carried}
 use Rattle.tree.proofs.Sizes.{preorder-length}
-use Rattle.tree.proofs.Subtrees.{subtree-slice, subtree-first, subtree-member}
+use Rattle.tree.proofs.Subtrees.{subtree-slice, subtree-length, subtree-first, subtree-member}
 use Rattle.tree.proofs.Tours.{tour-length}
 use Rattle.tree.proofs.Cells.{label-length, tour-table-length, lift-length}
 use Rattle.tree.proofs.ByLabels.{labels-lca}
@@ -66,11 +66,12 @@ carries-interval s e a v ha hv =
       λ q. interval-carried t ha hv (q .0) (q .1),
     )
 
--- document 02, 2026-01: the parts that a part carries are one stretch of the preorder, "beginning with it and holding every part it carries and no other"
+-- document 02, 2026-01: the parts that a part carries are one stretch of the preorder, as long as SIZE, "beginning with it and holding every part it carries and
+-- no other"
 pub one-stretch : (s : List ℕ) → Accepted s → (v : ℕ) → v < length s
-    → (subtree s v ≡ take (size s v) (drop (preorderNumber s v - 1) (preorder s))) × (getD (subtree s v) 0 0 ≡ v)
+    → (subtree s v ≡ take (size s v) (drop (preorderNumber s v - 1) (preorder s))) × (length (subtree s v) ≡ size s v) × (getD (subtree s v) 0 0 ≡ v)
     × ((u : ℕ) → List·Memᴰ u (subtree s v) ↔ ((u < length s) × Ancestor s v u))
-one-stretch s e v h = let t = accepted-tree s e .0 in (subtree-slice t v h, subtree-first t v h, subtree-member t v h)
+one-stretch s e v h = let t = accepted-tree s e .0 in (subtree-slice t v h, subtree-length t v h, subtree-first t v h, subtree-member t v h)
 
 -- an accepted sheet's own tables have the exact lengths that a call asks for
 pub own-tables-fit : (s : List ℕ) → Accepted s
