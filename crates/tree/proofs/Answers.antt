@@ -8,19 +8,19 @@ use mathlib.Core.Path.{_≡_, refl, sym, ap, _∙_}
 use mathlib.Core.Logic.{_≢_}
 use mathlib.Core.Bool.{Bool, true, false}
 use mathlib.Core.List.{List, [], _∷_}
-use borrow.Author.Tests.{eq-eqb, ne-eqb, eqb-true, lt-ltb, le-ltb, le-leb, lt-leb}
-use lib.Dec.{lit<, eqb}
+use borrow.Author.Tests.{eq-eqb, ne-eqb, eqb-true, lt-ltb, le-ltb, le-leb, lt-leb, ltb-true, leb-true}
+use lib.Dec.{lit<, lit≤, eqb}
 use lib.ListN.{length, replicate}
 use Rattle.tree.specs.Scan.{least}
 use Rattle.tree.specs.Tree.{nextRoot, rootOf}
 use Rattle.tree.specs.Verdict.{Verdict, accepted, refused}
-use Rattle.tree.specs.Tests.{Test, testNumber, verdict, firstOutside, firstLost, empty, tooLarge, wrongLength, parentOutOfRange, noRoot, secondRoot, cycle, staleTable, limit, treeTests, sheetTests}
+use Rattle.tree.specs.Tests.{Test, testNumber, verdict, firstOutside, firstLost, empty, tooLarge, wrongLength, parentOutOfRange, noRoot, secondRoot, cycle, staleTable, limit, sizeTests, treeTests, sheetTests}
 use Rattle.tree.specs.Tables.{Lent, own, endToEnd}
 use Rattle.tree.specs.Sections.{firstDifference}
 use Rattle.tree.specs.Buffers.{workAfter, filled}
 use Rattle.tree.proofs.Scans.{by-test, by-equal, by-order, least-le}
 use Rattle.tree.proofs.Differences.{stale-place}
-use Rattle.tree.proofs.Verdicts.{Passed, passed-accepted, accepted-passed, passed-on, first-refused}
+use Rattle.tree.proofs.Verdicts.{Passed, not-both, passed-accepted, accepted-passed, accepted-both, refused-on, first-refused}
 
 -- a test for the lowest bad number passes where that is n, and fails where it is below
 pub bad-passes : (bad : ℕ → Bool) (n : ℕ) → n ≤ least bad n → eqb (least bad n) n ≡ true
@@ -70,45 +70,56 @@ module _ (shift : ℕ) (s : List ℕ) where
       let (p₄, (p₅, (p₆, _))) = alone-passes h r a in
       passed-accepted (treeTests shift s) (p₄, (p₅, (p₆, (bad-passes _ (length s) c, tt))))
 
-module _ (s : List ℕ) where
-  -- ---- tests 1 to 3
+-- ---- tests 1 to 3
 
-  pub refused-empty : (buffer : ℕ) → length s ≡ 0 → verdict (sheetTests s buffer) ≡ refused 1 0
+module _ (n : ℕ) where
+  pub refused-empty : (buffer : ℕ) → n ≡ 0 → verdict (sizeTests n buffer) ≡ refused 1 0
   unfolding empty
-  refused-empty buffer h = first-refused [] (empty (length s)) _ tt (le-ltb _ _ (le-of-eq h))
+  refused-empty buffer h = first-refused [] (empty n) _ tt (le-ltb _ _ (le-of-eq h))
 
-  pub refused-too-large : (buffer : ℕ) → 0 < length s → limit < length s → verdict (sheetTests s buffer) ≡ refused 2 0
+  pub refused-too-large : (buffer : ℕ) → 0 < n → limit < n → verdict (sizeTests n buffer) ≡ refused 2 0
   unfolding empty tooLarge
-  refused-too-large buffer h l = first-refused (empty (length s) ∷ []) (tooLarge limit (length s)) _ (lt-ltb _ _ h, tt) (lt-leb _ _ l)
+  refused-too-large buffer h l = first-refused (empty n ∷ []) (tooLarge limit n) _ (lt-ltb _ _ h, tt) (lt-leb _ _ l)
 
-  sizes-pass : 0 < length s → length s ≤ limit → Passed (empty (length s) ∷ tooLarge limit (length s) ∷ [])
+  sizes-pass : 0 < n → n ≤ limit → Passed (empty n ∷ tooLarge limit n ∷ [])
   unfolding empty tooLarge
   sizes-pass h l = (lt-ltb _ _ h, (le-leb _ _ l, tt))
 
-  pub refused-wrong-length : (buffer : ℕ) → 0 < length s → length s ≤ limit → buffer ≢ 0 → verdict (sheetTests s buffer) ≡ refused 3 buffer
+  pub refused-wrong-length : (buffer : ℕ) → 0 < n → n ≤ limit → buffer ≢ 0 → verdict (sizeTests n buffer) ≡ refused 3 buffer
   unfolding wrongLength
-  refused-wrong-length buffer h l q = first-refused (empty (length s) ∷ tooLarge limit (length s) ∷ []) (wrongLength buffer) _ (sizes-pass h l) (ne-eqb _ _ q)
+  refused-wrong-length buffer h l q = first-refused (empty n ∷ tooLarge limit n ∷ []) (wrongLength buffer) [] (sizes-pass h l) (ne-eqb _ _ q)
 
-  -- where all three pass, tests 4 to 7 decide
-  pub tree-decides : (buffer : ℕ) → 0 < length s → length s ≤ limit → buffer ≡ 0 → verdict (sheetTests s buffer) ≡ verdict (treeTests 0 s)
+  pub accepted-sizes : (buffer : ℕ) → 0 < n → n ≤ limit → buffer ≡ 0 → verdict (sizeTests n buffer) ≡ accepted
   unfolding wrongLength
-  tree-decides buffer h l e =
-      let (a, (b, _)) = sizes-pass h l in
-      passed-on (empty (length s) ∷ tooLarge limit (length s) ∷ wrongLength buffer ∷ []) (treeTests 0 s) (a, (b, (eq-eqb _ _ e, tt)))
+  accepted-sizes buffer h l e = let (a, (b, _)) = sizes-pass h l in passed-accepted (sizeTests n buffer) (a, (b, (eq-eqb _ _ e, tt)))
 
+  -- and the other way round
+  pub sizes-accepted : (buffer : ℕ) → verdict (sizeTests n buffer) ≡ accepted → (0 < n) × (n ≤ limit) × (buffer ≡ 0)
+  unfolding empty tooLarge wrongLength
+  sizes-accepted buffer e =
+      let (some, (most, (fits, _))) = accepted-passed (sizeTests n buffer) e in
+      (ltb-true _ _ some, leb-true _ _ most, eqb-true _ _ fits)
+
+module _ (s : List ℕ) where
   -- a sheet of no part or of too many is refused whatever its buffers
   pub same-verdict : (a b : ℕ) → (0 < length s → length s ≤ limit → a ≡ b) → verdict (sheetTests s a) ≡ verdict (sheetTests s b)
   same-verdict a b e =
-      by-equal (length s) 0 (λ h. refused-empty a h ∙ sym (refused-empty b h))
+      let n = length s in
+      let alike : (number place : ℕ) → ((buffer : ℕ) → verdict (sizeTests n buffer) ≡ refused number place)
+      → verdict (sheetTests s a) ≡ verdict (sheetTests s b) =
+      λ number place no.
+      refused-on (sizeTests n a) (treeTests 0 s) number place (no a) ∙ sym (refused-on (sizeTests n b) (treeTests 0 s) number place (no b)) in
+      by-equal n 0 (λ h. alike 1 0 (λ buffer. refused-empty n buffer h))
       (λ h.
       let some = pos-of-ne-zero h in
-      by-order (length s) limit (λ l. ap (λ (buffer : ℕ). verdict (sheetTests s buffer)) (e some l))
-      (λ l. refused-too-large a some l ∙ sym (refused-too-large b some l)))
+      by-order n limit (λ l. ap (λ (buffer : ℕ). verdict (sheetTests s buffer)) (e some l)) (λ l. alike 2 0 (λ buffer. refused-too-large n buffer some l)))
 
-  -- an accepted call has buffers that fit, and a sheet that is accepted wherever they do
+  -- an accepted call has buffers that fit
   pub accepted-fits : (buffer : ℕ) → verdict (sheetTests s buffer) ≡ accepted → buffer ≡ 0
-  unfolding wrongLength
-  accepted-fits buffer e = let (_, (_, (fits, _))) = accepted-passed (sheetTests s buffer) e in eqb-true _ _ fits
+  accepted-fits buffer e =
+      let (sizes, _) = accepted-both (sizeTests (length s) buffer) (treeTests 0 s) e in
+      let (_, _, fits) = sizes-accepted (length s) buffer sizes in
+      fits
 
 -- ---- test 8
 
@@ -136,15 +147,27 @@ filled-kept v number place own before e = rw e
 
 -- ---- work
 
--- refusals 1 to 3 leave work unchanged
-pub work-kept : (v : Verdict) (number place : ℕ) (work : List ℕ) → v ≡ refused number place → number ≤ 3 → work ≡ workAfter v work
-unfolding workAfter
-work-kept v number place work e h = rw (e, le-leb number 3 h)
-
 -- an accepted call leaves it all zero
 pub work-accepted : (v : Verdict) (work : List ℕ) → v ≡ accepted → workAfter v work ≡ replicate (length work) 0
 unfolding workAfter
 work-accepted v work e = rw e
+
+-- the tests of a list are all of the first three
+abbrev pub Early : List Test → Type 0
+Early [] = Unit {0}
+Early (t ∷ ts) = (testNumber t ≤ 3) × Early ts
+
+-- so where one of them refuses, work is left as it was
+pub work-early : (ts : List Test) (number place : ℕ) (work : List ℕ) → Early ts → verdict ts ≡ refused number place → work ≡ workAfter (verdict ts) work
+unfolding workAfter verdict
+work-early [] number place work l e = absurd (not-both refl e)
+work-early (t ∷ ts) number place work l e =
+    let rest = work-early ts number place work (l .1) in
+    by-test (t .passes) (λ p. rw p (rest (rw p at e))) (λ p. rw (p, le-leb (testNumber t) 3 (l .0)))
+
+pub sizes-early : (n buffer : ℕ) → Early (sizeTests n buffer)
+unfolding empty tooLarge wrongLength
+sizes-early n buffer = (lit≤ tt, (lit≤ tt, (lit≤ tt, tt)))
 
 -- the tests of a list are all after the third
 abbrev pub Later : List Test → Type 0

@@ -9,7 +9,7 @@ use mathlib.Core.Bool.{true, false, true≢false}
 use mathlib.Core.List.{List, [], _∷_, List·Memᴰ, List·Memᴰ·not-nil, List·Memᴰ·cases-cons}
 use borrow.Author.Tests.{eq-eqb, ne-eqb, eqb-true, ltb-true, ltb-false}
 use lib.Dec.{lit<, ltb}
-use Rattle.tree.specs.Buffers.{trailCells, answerCells, Fit, firstUnfit, lowerUnfit, pairsFits, trailFits, listFits}
+use Rattle.tree.specs.Buffers.{trailCells, answerCells, countCells, totalCells, Fit, firstUnfit, lowerUnfit, pairsFits, trailFits, listFits, wearFits}
 use Rattle.tree.proofs.Scans.{by-test, by-equal}
 
 -- ---- one list
@@ -132,3 +132,12 @@ list-fit answer e = let (one, _) = none-fitting 0 (listFits answer) (lit< tt, tt
 
 pub list-fitting : (answer : ℕ) → answer ≡ 1 → firstUnfit (listFits answer) ≡ 0
 list-fitting answer one = fitting-none (listFits answer) (eq-eqb _ _ one, tt)
+
+-- counts and totals
+pub wear-fit : (n counts totals : ℕ) → firstUnfit (wearFits n counts totals) ≡ 0 → (counts ≡ countCells n) × (totals ≡ totalCells n)
+wear-fit n counts totals e =
+    let (one-each, (filled, _)) = none-fitting 0 (wearFits n counts totals) (lit< tt, (lit< tt, tt)) e in
+    (eqb-true _ _ one-each, eqb-true _ _ filled)
+
+pub wear-fitting : (n counts totals : ℕ) → counts ≡ countCells n → totals ≡ totalCells n → firstUnfit (wearFits n counts totals) ≡ 0
+wear-fitting n counts totals one-each filled = fitting-none (wearFits n counts totals) (eq-eqb _ _ one-each, (eq-eqb _ _ filled, tt))

@@ -11,6 +11,7 @@ pub mod Roots
 pub mod Trees
 pub mod Lcas
 pub mod Lists
+pub mod BottomUps
 -- preorder and the labels
 pub mod Precedes
 pub mod PreorderList

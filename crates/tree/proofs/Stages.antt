@@ -13,12 +13,18 @@ use Rattle.tree.specs.Tests.{Test, verdict}
 use Rattle.tree.specs.Buffers.{workAfter}
 use Rattle.tree.specs.Answered.{Answered}
 use Rattle.tree.proofs.Verdicts.{accepted-on, refused-on}
-use Rattle.tree.proofs.Answers.{Later, work-accepted, work-zero}
+use Rattle.tree.proofs.Answers.{Early, Later, work-early, work-accepted, work-zero}
 
 -- tests of the same verdict answer alike
 pub answered-as : {tests others : List Test} {before after : List ℕ} {r : Outcome} → verdict tests ≡ verdict others → Answered tests before r after
     → Answered others before r after
 answered-as {before = before} e a = record { outcome = a .outcome ∙ e; work = a .work ∙ ap (λ (v : Verdict). workAfter v before) e }
+
+-- a refusal by one of the first three tests, before which work is not touched
+pub stage-early : {tests : List Test} {r : Outcome} {why : Refusal} (before : List ℕ) → Early tests → verdictOf r ≡ verdict tests → r ≡ Refused why
+    → Answered tests before r before
+stage-early {tests} before early told e =
+    record { outcome = told; work = work-early tests _ _ before early (sym told ∙ ap verdictOf e) }
 
 module _ {tests : List Test} {before after : List ℕ} {r : Outcome} (a : Answered tests before r after) where
   -- the verdict of a refusal, and of an acceptance

@@ -50,6 +50,13 @@ answerWidth = 1
 abbrev pub answerCells : ℕ → ℕ
 answerCells question = question / 2 * answerWidth
 
+-- counts, and the totals of them: a cell for each part
+abbrev pub countCells : ℕ → ℕ
+countCells n = n
+
+abbrev pub totalCells : ℕ → ℕ
+totalCells n = n
+
 -- ---- fit
 
 -- a lent buffer's number, and whether the buffer has its exact length
@@ -97,6 +104,13 @@ trailFit = exactFit 7 trailCells
 abbrev pub orderFit : ℕ → ℕ → Fit
 orderFit n = exactFit 8 (orderCells n)
 
+-- 9 counts, of 32 bits each, and 10 totals, of 64, of a sheet of n parts: "Both buffers have n cells"
+abbrev pub countsFit : ℕ → ℕ → Fit
+countsFit n = exactFit 9 (countCells n)
+
+abbrev pub totalsFit : ℕ → ℕ → Fit
+totalsFit n = exactFit 10 (totalCells n)
+
 -- the first of the lent buffers, listed by rising number, that does not fit; 0 where all fit
 unfoldable pub firstUnfit : List Fit → ℕ
 firstUnfit [] = 0
@@ -128,6 +142,10 @@ trailFits question answer rows = trailQuestionFit question ∷ answerFit answer 
 -- a list of parts
 abbrev pub listFits : ℕ → List Fit
 listFits answer = answerFit answer ∷ []
+
+-- counts and totals of a sheet of n parts
+abbrev pub wearFits : ℕ → ℕ → ℕ → List Fit
+wearFits n counts totals = countsFit n counts ∷ totalsFit n totals ∷ []
 
 -- ---- afterwards
 

@@ -3,6 +3,7 @@ pub mod Scan
 -- "The sheet and its words"
 pub mod Tree
 pub mod Preorder
+pub mod BottomUp
 pub mod Lca
 pub mod Sharing
 -- "Tables"

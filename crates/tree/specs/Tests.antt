@@ -109,13 +109,17 @@ noCommonAncestor s question = record { passes = ltb (least (isCommon s question)
 abbrev pub limit : ℕ
 limit = 16384
 
+-- the tests of sizes, 1 to 3, of a sheet of n parts and a call whose lowest buffer that does not fit is `buffer`
+abbrev pub sizeTests : ℕ → ℕ → List Test
+sizeTests n buffer = empty n ∷ tooLarge limit n ∷ wrongLength buffer ∷ []
+
 -- the tests that a sheet is one rooted tree, 4 to 7, its parts counted from `shift` on
 abbrev pub treeTests : ℕ → List ℕ → List Test
 treeTests shift s = parentOutOfRange shift s ∷ noRoot s ∷ secondRoot shift s ∷ cycle shift s ∷ []
 
 -- the tests of a sheet, 1 to 7, of a call whose lowest buffer that does not fit is `buffer`
 abbrev pub sheetTests : List ℕ → ℕ → List Test
-sheetTests s buffer = empty (length s) ∷ tooLarge limit (length s) ∷ wrongLength buffer ∷ treeTests 0 s
+sheetTests s buffer = sizeTests (length s) buffer ++ treeTests 0 s
 
 -- the tests of a sheet with lent tables, 1 to 8
 abbrev pub lentTests : Lent → ℕ → List Test
