@@ -1,0 +1,121 @@
+-- What the order is when no leaf is left: on one rooted tree, and on no other sheet with one root, it has all parts but the root. With it, falling numbers
+-- where no part names a later one.
+-- Assumes nothing.
+use Prim.Native.Nat.{ℕ, zero, suc, _+_, _-_, _*_, _≤_, _<_}
+use native.Mathlib.Omega.{arith}
+use mathlib.Core.Path.{_≡_, refl, sym, ap, _∙_}
+use mathlib.Core.Logic.{_≢_}
+use mathlib.Core.Bool.{Bool, true, false, not}
+use mathlib.Core.List.{List}
+use borrow.Author.Tests.{eq-eqb, ne-eqb, eqb-true, eqb-false, not-true}
+use lib.Dec.{eqb}
+use lib.ListN.{length, getD}
+use Rattle.tree.specs.Scan.{countBelow}
+use Rattle.tree.specs.Tree.{parent, level, rootOf, Tree}
+use Rattle.tree.specs.BottomUp.{OneRoot, BottomUp}
+use Rattle.tree.proofs.Scans.{by-equal, count-one}
+use Rattle.tree.proofs.Trees.{level-below, level-parent}
+use Rattle.tree.proofs.Pigeonhole.{count-apart, count-cover}
+use Rattle.tree.proofs.BottomUps.{Listing, listing-order}
+use Rattle.leaves.specs.Leaves.{Wooded, names, leftAt, Taking, Falling}
+use Rattle.leaves.proofs.Taken.{by-listed, count-all, order-apart, none-itself, found-below}
+
+-- ---- leaves taken off
+
+module _ {s w : List ℕ} {k : ℕ} (g : Wooded s w) (l : Taking s w k k) where
+  abbrev r : ℕ
+  r = rootOf s
+
+  -- every part but the root
+  abbrev notRoot : ℕ → Bool
+  notRoot c = not (eqb c r)
+
+  not-root : (c : ℕ) → c ≢ r → notRoot c ≡ true
+  not-root c q = rw (ne-eqb c r q)
+
+  -- there are n − 1 of them, and all in the order are such
+  others : length s ≡ suc (countBelow notRoot (length s))
+  others =
+      sym (count-all (λ _. true) (length s) (λ j h. refl))
+      ∙ count-one (λ _. true) notRoot (length s) r (g .one .part) (λ j q. not-root j q) refl (rw (eq-eqb r r refl))
+
+  ordered-others : countBelow (λ i. notRoot (getD w i 0)) k ≡ k
+  ordered-others = count-all (λ i. notRoot (getD w i 0)) k (λ i h. not-root (getD w i 0) (none-itself l r (g .one .part) (g .one .itself) i h))
+
+  -- as many as there are: each is in it
+  every : suc k ≡ length s → (v : ℕ) → v < length s → v ≢ r → (i : ℕ) × (i < k) × (getD w i 0 ≡ v)
+  every all v h q =
+      by-listed w k v (λ j b e. (j, b, e))
+      (λ other.
+      let fewer = count-apart (length s) k (λ i. getD w i 0) notRoot (order-apart l) v h (not-root v q) other in
+      let there = others in
+      let mine = ordered-others in
+      absurd (omega arith))
+
+  pub taken-order : suc k ≡ length s → BottomUp s w
+  taken-order all =
+      let room = g .room in
+      listing-order (g .one .inside)
+      (record {
+        room = omega arith;
+        part = λ i h. l .part i (omega arith);
+        apart = λ i j h b. l .apart i j h (omega arith);
+        every = λ v h q.
+            let at = every all v h (λ e. q (ap (parent s) e ∙ g .one .itself ∙ sym e)) in
+            let b = at .1 in
+            (at .0, omega arith, at .2);
+        first = λ i c h b e. l .first i c (omega arith) b e;
+      })
+
+  -- on a tree every part but the root comes to be taken, the deepest first
+  module _ (t : Tree s) where
+    reached : (d v : ℕ) → v < length s → length s ≤ level s v + d → v ≢ r → (i : ℕ) × (i < k) × (getD w i 0 ≡ v)
+    reached zero v h deep q = let b = level-below t v h in absurd (omega arith)
+    reached (suc d) v h deep q =
+        let deeper = reached d in
+        let names-v : (c : ℕ) → c < length s → names s v c ≡ true → (i : ℕ) × (i < k) × (getD w i 0 ≡ c) =
+        λ c b e.
+        let of : parent s c ≡ v = eqb-true _ _ e in
+        let other : parent s c ≢ c = λ itself. q (sym of ∙ itself ∙ g .one .only c b itself) in
+        let down = level-parent t c b other in
+        let up : level s (parent s c) ≡ level s v = ap (level s) of in
+        deeper c b (omega arith) (λ is. other (ap (parent s) is ∙ g .one .itself ∙ sym is)) in
+        let cover = count-cover (length s) k (λ i. getD w i 0) (names s v) (order-apart l) names-v in
+        let share = l .shared v h in
+        l .listed v h (omega arith)
+
+    pub taken-all : suc k ≡ length s
+    taken-all =
+        let cover = count-cover (length s) k (λ i. getD w i 0) notRoot (order-apart l)
+        (λ c h e. reached (length s) c h (omega arith) (eqb-false c r (not-true _ e))) in
+        let there = others in
+        let mine = ordered-others in
+        let fewer = found-below l g in
+        omega arith
+
+-- ---- falling numbers
+
+pub falling-order : {s w : List ℕ} → Wooded s w → Falling (length s) w → ((v : ℕ) → v < length s → getD s v 0 ≤ v) → BottomUp s w
+unfolding parent
+falling-order {s} {w} g fall earlier =
+    let n = length s in
+    let room = g .room in
+    let some : 0 < n = omega (arith, g .one .part) in
+    let root-zero : 0 ≡ rootOf s = let e = earlier 0 some in g .one .only 0 some (omega arith) in
+    let other : (v : ℕ) → v < n → 0 < v → getD s v 0 ≢ v = λ v h pos e. let z = g .one .only v h e in absurd (omega arith) in
+    listing-order (g .one .inside)
+    (record {
+      room = omega arith;
+      part = λ i h. let c = fall .cell i (omega arith) in omega arith;
+      apart = λ i j h b e. let a = fall .cell i (omega arith) in let c = fall .cell j (omega arith) in absurd (omega arith);
+      every = λ v h q.
+          let pos : v ≢ 0 = λ e. q (let z = earlier v h in omega arith) in
+          let c = fall .cell (n - 1 - v) (omega arith) in
+          (n - 1 - v, omega arith, omega arith);
+      first = λ i c h b e.
+          let at = fall .cell i (omega arith) in
+          let less = earlier c b in
+          let q : c ≢ n - 1 - i = λ same. other c b (omega arith) (omega arith) in
+          let there = fall .cell (n - 1 - c) (omega arith) in
+          (n - 1 - c, omega arith, omega arith);
+    })
