@@ -18,7 +18,8 @@ use Rattle.tree.proofs.Climbs.{Inside, climb-one, climb-add, climb-split, climb
 use Rattle.tree.proofs.Roots.{is-root, root-is, root-of, no-second, meets-by-n}
 use Rattle.tree.proofs.Places.{entries-inside-place, cycle-place}
 use Rattle.cells.proofs.Stretches.{no-bits}
-use Rattle.rooted.specs.Jumps.{OneRoot, Rooted, Up, Linked, Links, Hopped, Jumped}
+use Rattle.tree.specs.BottomUp.{OneRoot}
+use Rattle.rooted.specs.Jumps.{Rooted, Up, Linked, Links, Hopped, Jumped}
 
 -- a sheet that has passed tests 4 to 6 has one root
 pub one-root : (s : List ℕ) → length s ≤ firstOutside s → rootOf s < length s → length s ≤ nextRoot s (suc (rootOf s)) → OneRoot s (rootOf s)

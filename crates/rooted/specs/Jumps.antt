@@ -6,18 +6,12 @@ use mathlib.Core.List.{List}
 use lib.ListN.{length, getD, set}
 use Rattle.tree.specs.Tree.{parent, climb}
 use Rattle.tree.specs.Tests.{limit}
+use Rattle.tree.specs.BottomUp.{OneRoot}
 
--- a sheet that has passed tests 4 to 6: its entries are parts, and r alone names itself
-pub record OneRoot (s : List ℕ) (r : ℕ) : Type 0 where
-  pub inside : (v : ℕ) → v < length s → parent s v < length s
-  pub part : r < length s
-  pub itself : parent s r ≡ r
-  pub only : (v : ℕ) → v < length s → parent s v ≡ v → v ≡ r
-
--- a sheet that is not too large, with a cell for each part's link
+-- a sheet that is not too large, with two cells for each part: its link, or its place in an order and a count
 pub record Roomy (s w : List ℕ) : Type 0 where
   pub small : length s ≤ limit
-  pub room : length s ≤ length w
+  pub room : 2 * length s ≤ length w
 
 -- a sheet that is both
 pub record Rooted (s w : List ℕ) (r : ℕ) : Type 0 where

@@ -1,4 +1,5 @@
-// Whether a sheet is one rooted tree: tests 4 to 7 of document 01's table, and its root. The loop test takes a few passes, usually, and at most log n + 2.
+// Whether a sheet is one rooted tree: tests 4 to 7 of document 01's table, and its root. The loop test takes a few passes, usually, and at most log n + 2; where
+// a bottom-up order is asked for as well, taking leaves off is the loop test.
 
 mod jumps;
 mod scan;
@@ -6,11 +7,14 @@ mod scan;
 use tree::Outcome;
 use tree::Refusal;
 ghost use mathlib.Core.Path.{_≡_};
+ghost use mathlib.Core.Bool.{true};
 ghost use Prim.Native.Nat.{_≤_};
+ghost use lib.ListN.{length};
 ghost use Rattle.tree.specs.Tree.{rootOf};
-ghost use Rattle.tree.specs.Verdict.{verdictOf};
-ghost use Rattle.tree.specs.Tests.{verdict, limit, treeTests};
-ghost use Rattle.rooted.specs.Jumps.{Roomy};
+ghost use Rattle.tree.specs.Tests.{limit, firstLost};
+ghost use Rattle.tree.specs.BottomUp.{BottomUp};
+ghost use Rattle.rooted.specs.Jumps.{Roomy, Rooted};
+ghost use Rattle.rooted.specs.Tested.{TreeTested};
 
 // The part that names itself, of a sheet that has one; else the lowest such part, or the number of parts where there is none.
 pub fn root(parents: &[u16]) -> usize
@@ -19,10 +23,11 @@ pub fn root(parents: &[u16]) -> usize
     scan::next_root(parents, 0)
 }
 
-// Tests 4 to 7, the parts counted from `shift` on. The loop test keeps its links in `work`.
-pub fn test_tree(parents: &[u16], shift: usize, work: &mut [u16]) -> Outcome
+// Tests 4 to 7, the parts counted from `shift` on. The loop test keeps its links in `work`; where the sheet is accepted and an order is asked for, the first
+// n − 1 cells are a bottom-up order afterwards.
+pub fn test_tree(parents: &[u16], shift: usize, ordered: bool, work: &mut [u16]) -> Outcome
     requires { ⌜ Roomy (now parents) (now work) × (shift ≤ limit) ⌝ }
-    ensures { λ r. ⌜ verdictOf r ≡ verdict (treeTests shift (now (parents .entry))) ⌝ }
+    ensures { λ r. ⌜ TreeTested (now (parents .entry)) shift ordered r (now (work .exit)) ⌝ }
 {
     let n = parents.len();
     let off = cells::first_from(parents, n);
@@ -37,9 +42,33 @@ pub fn test_tree(parents: &[u16], shift: usize, work: &mut [u16]) -> Outcome
     if second < n {
         return Outcome::Refused(Refusal::SecondRoot(shift + second));
     }
-    let v = jumps::first_cycle(parents, root, work);
+    let v = first_lost(parents, root, ordered, work);
     if v < n {
         return Outcome::Refused(Refusal::Cycle(shift + v));
     }
     Outcome::Accepted
+}
+
+// Test 7: the lowest part whose climb never meets the root; the number of parts where there is none.
+fn first_lost(parents: &[u16], root: usize, ordered: bool, work: &mut [u16]) -> usize
+    requires { ⌜ Rooted (now parents) (now work) root × (root ≡ rootOf (now parents)) ⌝ }
+    ensures { λ r. ⌜ (r ≡ firstLost (now (parents .entry)))
+        × (ordered ≡ true → r ≡ length (now (parents .entry)) → BottomUp (now (parents .entry)) (now (work .exit))) ⌝ }
+{
+    if ordered {
+        return lost_by_leaves(parents, root, work);
+    }
+    jumps::first_cycle(parents, root, work)
+}
+
+// The same by taking leaves off, which leaves an order: where some cannot be taken there is such a part, and it is looked for.
+fn lost_by_leaves(parents: &[u16], root: usize, work: &mut [u16]) -> usize
+    requires { ⌜ Rooted (now parents) (now work) root × (root ≡ rootOf (now parents)) ⌝ }
+    ensures { λ r. ⌜ (r ≡ firstLost (now (parents .entry)))
+        × (r ≡ length (now (parents .entry)) → BottomUp (now (parents .entry)) (now (work .exit))) ⌝ }
+{
+    if leaves::bottom_up(parents, work) {
+        return parents.len();
+    }
+    jumps::first_cycle(parents, root, work)
 }

@@ -1,4 +1,5 @@
--- The calls of this crate: what was found of the lengths is what is there, what an accepted call's buffers are, and what building gives.
+-- The calls of this crate: what was found of the lengths is what is there, what an accepted call's buffers are, how the tests of sizes and of the tree follow each
+-- other, and what building gives.
 -- Assumes nothing.
 use Prim.Native.Nat.{ℕ, _≤_, _<_}
 use native.Mathlib.Omega.{arith}
@@ -8,15 +9,16 @@ use lib.ListN.{length, replicate}
 use Rattle.tree.specs.declared.Refusal.{Refusal}
 use Rattle.tree.specs.declared.Outcome.{Outcome}
 use Rattle.tree.specs.declared.Outcome.the-variants.{Accepted, Refused}
-use Rattle.tree.specs.Verdict.{accepted}
+use Rattle.tree.specs.Verdict.{accepted, verdictOf}
 use Rattle.tree.specs.Buffers.{workCells}
-use Rattle.tree.specs.Tests.{limit}
+use Rattle.tree.specs.Tests.{limit, verdict, sizeTests, treeTests, sheetTests}
 use Rattle.tree.specs.Tables.{Lent}
 use Rattle.tree.specs.Lending.{sheetUnfit, unfitOf}
-use Rattle.tree.proofs.Answers.{same-verdict, filled-own, filled-kept, work-accepted}
-use Rattle.tree.proofs.Stages.{answered-as, stage-no, stage-yes}
+use Rattle.tree.proofs.Verdicts.{not-both, accepted-on}
+use Rattle.tree.proofs.Answers.{same-verdict, filled-own, filled-kept, work-accepted, work-zero, sizes-accepted, sizes-early, tree-later}
+use Rattle.tree.proofs.Stages.{answered-as, stage-early, stage-refused, stage-no, stage-yes}
 use Rattle.tree.proofs.Owning.{exact, sheet-exact, accepted-small}
-use Rattle.tables.specs.Check.{Tested}
+use Rattle.tables.specs.Check.{Tested, OrderGives}
 use Rattle.tables.specs.Lend.{buildVerdict, BuildGives}
 use Rattle.tables.specs.Sections.{Fits, Built}
 
@@ -54,6 +56,31 @@ tested-fits t work after further unfit found tested e same =
       lift-cells = x .lift-cells;
       order-cells = x .order-cells;
     }
+
+-- ---- tests 1 to 3, and then 4 to 7
+
+module _ (s : List ℕ) (buffer : ℕ) {sizes : Outcome} (told : verdictOf sizes ≡ verdict (sizeTests (length s) buffer)) where
+  -- a refusal by the first three stands, and work is not touched
+  pub sizes-refuse : {why : Refusal} (work : List ℕ) → sizes ≡ Refused why → Tested s buffer work sizes work
+  sizes-refuse work e = stage-refused (stage-early work (sizes-early (length s) buffer) told e) (treeTests 0 s) e
+
+  -- where they accept, the sheet is neither too small nor too large, and all buffers fit
+  pub sizes-hold : sizes ≡ Accepted → (0 < length s) × (length s ≤ limit) × (buffer ≡ 0)
+  sizes-hold e = sizes-accepted (length s) buffer (sym told ∙ ap verdictOf e)
+
+  -- and tests 4 to 7 decide
+  pub tree-decides : sizes ≡ Accepted → verdict (sheetTests s buffer) ≡ verdict (treeTests 0 s)
+  tree-decides e = accepted-on (sizeTests (length s) buffer) (treeTests 0 s) (sym told ∙ ap verdictOf e)
+
+  pub tree-tested : {work after : List ℕ} {r : Outcome} → sizes ≡ Accepted → verdictOf r ≡ verdict (treeTests 0 s) → after ≡ replicate (length work) 0
+      → Tested s buffer work r after
+  tree-tested {work} e decided clear =
+      record { outcome = decided ∙ sym (tree-decides e); work = clear ∙ sym (work-zero _ (treeTests 0 s) work (tree-decides e) (tree-later 0 s)) }
+
+-- a refused call leaves no order
+pub order-refused : {s before after : List ℕ} {further : ℕ} {r : Outcome} {why : Refusal} → Tested s (sheetUnfit s before further) before r after
+    → r ≡ Refused why → OrderGives s further before r after
+order-refused tested e = record { outcome = tested .outcome; refusal = λ _ _ _. tested .work; order = λ yes-all. absurd (not-both yes-all (stage-no tested e)) }
 
 -- ---- building
 

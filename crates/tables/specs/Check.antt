@@ -1,9 +1,13 @@
 -- What the calls that are lent a sheet without tables give, from their inputs alone.
 -- Assumes nothing.
 use Prim.Native.Nat.{ℕ}
+use mathlib.Core.Path.{_≡_}
 use mathlib.Core.List.{List}
 use Rattle.tree.specs.declared.Outcome.{Outcome}
-use Rattle.tree.specs.Tests.{sheetTests}
+use Rattle.tree.specs.Verdict.{accepted, refused, verdictOf}
+use Rattle.tree.specs.Tests.{verdict, sheetTests}
+use Rattle.tree.specs.Buffers.{workAfter}
+use Rattle.tree.specs.BottomUp.{BottomUp}
 use Rattle.tree.specs.Lending.{sheetUnfit}
 use Rattle.tree.specs.Answered.{Answered}
 
@@ -18,3 +22,10 @@ SheetGives s further before = Tested s (sheetUnfit s before further) before
 -- checking is lent work alone
 abbrev pub CheckGives : List ℕ → List ℕ → Outcome → List ℕ → Type 0
 CheckGives s = SheetGives s 0
+
+-- the same of a call that sums over what parts carry: where it is accepted, work holds a bottom-up order
+pub record OrderGives (s : List ℕ) (further : ℕ) (before : List ℕ) (r : Outcome) (after : List ℕ) : Type 0 where
+  pub outcome : verdictOf r ≡ verdict (sheetTests s (sheetUnfit s before further))
+  pub refusal : (number place : ℕ) → verdict (sheetTests s (sheetUnfit s before further)) ≡ refused number place
+      → after ≡ workAfter (verdict (sheetTests s (sheetUnfit s before further))) before
+  pub order : verdict (sheetTests s (sheetUnfit s before further)) ≡ accepted → BottomUp s after

@@ -11,11 +11,12 @@ ghost use mathlib.Core.Path.{_≡_};
 ghost use Prim.Native.Nat.{_≤_, _<_};
 ghost use lib.ListN.{length};
 ghost use Rattle.tree.specs.Tree.{rootOf};
-ghost use Rattle.tree.specs.Tests.{limit};
+ghost use Rattle.tree.specs.Verdict.{verdictOf};
+ghost use Rattle.tree.specs.Tests.{limit, verdict, sizeTests};
 ghost use Rattle.tree.specs.Buffers.{workCells};
 ghost use Rattle.tree.specs.Tables.{lentBy};
 ghost use Rattle.tree.specs.Ready.{Ready, NumbersIn};
-ghost use Rattle.tables.specs.Check.{Tested, SheetGives, CheckGives};
+ghost use Rattle.tables.specs.Check.{Tested, SheetGives, CheckGives, OrderGives};
 ghost use Rattle.tables.specs.Lend.{BuildGives, LentGives};
 
 // Checks the sheet `parents`: accepted if it is one rooted tree of at most 16,384 parts, else refused with document 01's number
@@ -33,6 +34,24 @@ pub fn admit_sheet(parents: &[u16], further: usize, work: &mut [u16]) -> Outcome
 {
     let unfit = fits::lower(fits::work_unfit(4 * parents.len(), work.len()), further);
     admit(parents, unfit, work)
+}
+
+// The same for a call that sums over what parts carry: where it is accepted, the first n − 1 cells of `work` are a bottom-up order of the sheet afterwards, and
+// the call that goes by it clears them. Taking leaves off for that order is the loop test.
+pub fn admit_bottom_up(parents: &[u16], further: usize, work: &mut [u16]) -> Outcome
+    ensures { λ r. ⌜ OrderGives (now (parents .entry)) further (now (work .entry)) r (now (work .exit)) ⌝ }
+{
+    let unfit = fits::lower(fits::work_unfit(4 * parents.len(), work.len()), further);
+    let sizes = test_sizes(parents.len(), unfit);
+    let Outcome::Accepted = sizes else {
+        return sizes;
+    };
+    let r = rooted::test_tree(parents, 0, true, work);
+    let Outcome::Accepted = r else {
+        cells::clear(work);
+        return r;
+    };
+    r
 }
 
 // Builds the four tables of the sheet `parents`: tests 1 to 7, and an accepted call fills every cell of `label`, `tour`, `lift` and `order`. A refused
@@ -137,7 +156,20 @@ fn admit(parents: &[u16], unfit: usize, work: &mut [u16]) -> Outcome
     requires { ⌜ (0 < length (now parents) → length (now parents) ≤ limit → unfit ≡ 0 → length (now work) ≡ workCells (length (now parents))) ⌝ }
     ensures { λ r. ⌜ Tested (now (parents .entry)) unfit (now (work .entry)) r (now (work .exit)) ⌝ }
 {
-    let n = parents.len();
+    let sizes = test_sizes(parents.len(), unfit);
+    let Outcome::Accepted = sizes else {
+        return sizes;
+    };
+    cells::clear(work);
+    let r = rooted::test_tree(parents, 0, false, work);
+    cells::clear(work);
+    r
+}
+
+// Tests 1 to 3, of a sheet of n parts and a call whose lowest buffer that does not fit is `unfit`, or 0.
+fn test_sizes(n: usize, unfit: usize) -> Outcome
+    ensures { λ r. ⌜ verdictOf r ≡ verdict (sizeTests n unfit) ⌝ }
+{
     if n == 0 {
         return Outcome::Refused(Refusal::Empty);
     }
@@ -147,8 +179,5 @@ fn admit(parents: &[u16], unfit: usize, work: &mut [u16]) -> Outcome
     if unfit != 0 {
         return Outcome::Refused(Refusal::WrongLength(unfit));
     }
-    cells::clear(work);
-    let r = rooted::test_tree(parents, 0, work);
-    cells::clear(work);
-    r
+    Outcome::Accepted
 }

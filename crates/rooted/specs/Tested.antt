@@ -1,0 +1,15 @@
+-- What tests 4 to 7 give, with an order where one is asked for.
+-- Assumes nothing.
+use Prim.Native.Nat.{ℕ}
+use mathlib.Core.Path.{_≡_}
+use mathlib.Core.Bool.{Bool, true}
+use mathlib.Core.List.{List}
+use Rattle.tree.specs.declared.Outcome.{Outcome}
+use Rattle.tree.specs.Verdict.{accepted, verdictOf}
+use Rattle.tree.specs.Tests.{verdict, treeTests}
+use Rattle.tree.specs.BottomUp.{BottomUp}
+
+-- the answer to tests 4 to 7, the parts counted from `shift` on; and, of a sheet that is accepted, a bottom-up order in w where one is asked for
+pub record TreeTested (s : List ℕ) (shift : ℕ) (ordered : Bool) (r : Outcome) (w : List ℕ) : Type 0 where
+  pub outcome : verdictOf r ≡ verdict (treeTests shift s)
+  pub order : ordered ≡ true → verdict (treeTests shift s) ≡ accepted → BottomUp s w
