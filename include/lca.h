@@ -18,13 +18,16 @@
  *   trail    the lifts of a pair in order: after each, where the two parts are
  *   preorder an order of the parts: the root first; a part before all else that it carries; of two parts with the same entry, the lower
  *            number with all it carries before the other with all it carries
+ *   count    of a part, its wear, a whole number of 32 bits
+ *   total    of a part, the wear of its assembly, in 64 bits: the sum of the counts of all parts that it carries
  *
  * Link with target/staticlib/liblca.a, which `rt staticlib lca` makes.
  *
  *
  * Buffers
  *
- * Each buffer is a pointer and a length, in cells of uint16_t. Lengths are exact; for n parts, 1 to LCA_MOST_PARTS, they are:
+ * Each buffer is a pointer and a length, in cells. A cell is a uint16_t, but a uint32_t in counts and a uint64_t in totals. Lengths are
+ * exact; for n parts, 1 to LCA_MOST_PARTS, they are:
  *
  *   buffer    cells                      what it holds
  *   parents   n                          the sheet
@@ -40,6 +43,8 @@
  *   answer    1 for each pair            the carriers, in the pairs' order
  *             1 for a list or a trail    the carrier
  *   trail     LCA_TRAIL_CELLS            two cells for each lift, x's side and then y's; LCA_NO_CELL after the last
+ *   counts    lca_counts_cells(n)        each part's count
+ *   totals    lca_totals_cells(n)        each part's total
  *
  * Any other length is refused, and so is any content that a call cannot answer. The caller owes only this:
  *
@@ -55,8 +60,8 @@
  * A call returns LCA_ACCEPTED, or the number of its refusal, by the card below. It always sets *value: to the refusal's place, to an
  * accepted trail's count of lifts, to an accepted subtree's count of parts, or to 0.
  *
- * An accepted call fills every cell of what it was lent to fill. A refused one changes no table, answer or trail. `work` is all zero
- * afterwards, but unchanged after refusals 1 to 3.
+ * An accepted call fills every cell of what it was lent to fill. A refused one changes no table, answer, trail or total. `work` is all
+ * zero afterwards, but unchanged after refusals 1 to 3.
  */
 
 #ifndef LCA_H
@@ -73,7 +78,7 @@ extern "C" {
  * The version of the C interface that this header declares. Every change of a call, of a length or of a number's meaning raises it.
  * lca_version() gives that of the archive which is linked. A program may compare both before its first call.
  */
-#define LCA_VERSION 2
+#define LCA_VERSION 3
 
 uint32_t lca_version(void);
 
@@ -86,7 +91,7 @@ enum lca_number {
     LCA_BARE = 1,           /* the sheet has no part; 0 */
     LCA_OVERSIZE = 2,       /* the sheet has more than LCA_MOST_PARTS parts; 0 */
     LCA_MISFIT = 3,         /* a buffer hasn't its exact length; the lowest such buffer of 1 label, 2 tour, 3 lift, 4 work, 5 question,
-                               6 answer, 7 trail, 8 order */
+                               6 answer, 7 trail, 8 order, 9 counts, 10 totals */
     LCA_OFF_SHEET = 4,      /* an entry is n or more; the lowest part with such an entry */
     LCA_ROOTLESS = 5,       /* no part names itself; 0 */
     LCA_SECOND_ROOT = 6,    /* two or more parts name themselves; the second lowest of them */
@@ -154,6 +159,18 @@ static inline size_t lca_order_cells(size_t n)
 static inline size_t lca_work_cells(size_t n)
 {
     return lca_has_tables(n) ? 4 * n : 0;
+}
+
+/* n */
+static inline size_t lca_counts_cells(size_t n)
+{
+    return lca_has_tables(n) ? n : 0;
+}
+
+/* n */
+static inline size_t lca_totals_cells(size_t n)
+{
+    return lca_has_tables(n) ? n : 0;
 }
 
 /* The operator's word for a number: "accepted" for 0, "unknown" for one off the card. */
@@ -294,6 +311,19 @@ uint32_t lca_subtree(
     uint16_t *work, size_t work_len,
     size_t part,
     uint64_t *start,
+    uint64_t *value);
+
+/*
+ * Wear by assembly: each part's total, the sum of the counts of all parts that it carries. Tests 1 to 7. Writes: totals, work.
+ *
+ * The root's total is the sum of all counts. No total wraps: LCA_MOST_PARTS counts of 32 bits come to less than 2^46. The call is lent no
+ * tables, and what totals held before makes no difference.
+ */
+uint32_t lca_totals(
+    const uint16_t *parents, size_t parents_len,
+    uint16_t *work, size_t work_len,
+    const uint32_t *counts, size_t counts_len,
+    uint64_t *totals, size_t totals_len,
     uint64_t *value);
 
 #ifdef __cplusplus

@@ -21,7 +21,7 @@
 #error "LCA_VERSION must be a number from 1 on that #if can read"
 #endif
 
-enum { PARTS = 7, LABEL = 42, TOUR = 72, LIFT = 21, ORDER = 7, WORK = 28 };
+enum { PARTS = 7, LABEL = 42, TOUR = 72, LIFT = 21, ORDER = 7, WORK = 28, COUNTS = 7, TOTALS = 7 };
 
 /* What a cell holds that no call has written. */
 enum { UNTOUCHED = 9999 };
@@ -30,6 +30,10 @@ enum { UNTOUCHED = 9999 };
 static const uint16_t parents[PARTS] = {0, 0, 0, 1, 1, 2, 5};
 
 static uint16_t label[LABEL], tour[TOUR], lift[LIFT], order[ORDER], work[WORK];
+
+/* What each part has worn, and the most that it can have. */
+static const uint32_t counts[COUNTS] = {1, 2, 4, 8, 16, 32, 64};
+static const uint32_t most[COUNTS] = {UINT32_MAX, UINT32_MAX, UINT32_MAX, UINT32_MAX, UINT32_MAX, UINT32_MAX, UINT32_MAX};
 
 static int all_right = 1;
 
@@ -60,19 +64,19 @@ static void test_version(void)
 }
 
 struct lengths {
-    size_t n, label, tour, lift, order, work;
+    size_t n, label, tour, lift, order, work, counts, totals;
 };
 
 static void test_lengths(void)
 {
     static const struct lengths all[] = {
-        {0, 0, 0, 0, 0, 0},
-        {1, 6, 3, 1, 1, 4},
-        {3, 18, 23, 6, 3, 12},
-        {PARTS, LABEL, TOUR, LIFT, ORDER, WORK},
-        {16384, 98304, 540656, 245760, 16384, 65536},
-        {16385, 0, 0, 0, 0, 0},
-        {(size_t)-1, 0, 0, 0, 0, 0},
+        {0, 0, 0, 0, 0, 0, 0, 0},
+        {1, 6, 3, 1, 1, 4, 1, 1},
+        {3, 18, 23, 6, 3, 12, 3, 3},
+        {PARTS, LABEL, TOUR, LIFT, ORDER, WORK, COUNTS, TOTALS},
+        {16384, 98304, 540656, 245760, 16384, 65536, 16384, 16384},
+        {16385, 0, 0, 0, 0, 0, 0, 0},
+        {(size_t)-1, 0, 0, 0, 0, 0, 0, 0},
     };
     size_t i;
     for (i = 0; i < sizeof all / sizeof all[0]; i++) {
@@ -82,6 +86,8 @@ static void test_lengths(void)
         expect_at("lca_lift_cells", n, lca_lift_cells(n), all[i].lift);
         expect_at("lca_order_cells", n, lca_order_cells(n), all[i].order);
         expect_at("lca_work_cells", n, lca_work_cells(n), all[i].work);
+        expect_at("lca_counts_cells", n, lca_counts_cells(n), all[i].counts);
+        expect_at("lca_totals_cells", n, lca_totals_cells(n), all[i].totals);
     }
     expect("LCA_MOST_PARTS", LCA_MOST_PARTS, 16384);
     expect("LCA_TRAIL_CELLS", LCA_TRAIL_CELLS, 64);
@@ -226,6 +232,46 @@ static void test_subtree(void)
     test_compare();
 }
 
+/* Asks for the totals of these counts. Part 1 carries 1 3 4, part 2 carries 2 5 6, part 5 carries 5 6, and the root all. */
+static void test_totals_of(const uint32_t *worn, const uint64_t *must)
+{
+    uint64_t totals[TOTALS] = {UNTOUCHED, UNTOUCHED, UNTOUCHED, UNTOUCHED, UNTOUCHED, UNTOUCHED, UNTOUCHED}, value = UNTOUCHED;
+    size_t i;
+    expect("lca_totals", lca_totals(parents, PARTS, work, WORK, worn, COUNTS, totals, TOTALS, &value), LCA_ACCEPTED);
+    expect("lca_totals's value", value, 0);
+    for (i = 0; i < TOTALS; i++) {
+        expect_at("totals", i, totals[i], must[i]);
+    }
+}
+
+/* A sheet, work, counts and totals of which the first so many cells are lent are refused, and the totals stay as they were. */
+static void test_totals_refused(
+    const uint16_t *sheet, size_t parts, size_t work_len, size_t counts_len, size_t totals_len, uint32_t must, uint64_t place)
+{
+    uint64_t totals[TOTALS] = {UNTOUCHED, UNTOUCHED, UNTOUCHED, UNTOUCHED, UNTOUCHED, UNTOUCHED, UNTOUCHED}, value = UNTOUCHED;
+    size_t i;
+    expect("lca_totals of what is refused", lca_totals(sheet, parts, work, work_len, counts, counts_len, totals, totals_len, &value), must);
+    expect("the place of refused totals", value, place);
+    for (i = 0; i < TOTALS; i++) {
+        expect_at("totals after a refusal", i, totals[i], UNTOUCHED);
+    }
+}
+
+/* 7, 3 and 2 times the most that a part can have worn are more than 32 bits hold. */
+static void test_totals(void)
+{
+    static const uint64_t must[TOTALS] = {127, 26, 100, 8, 16, 96, 64};
+    static const uint64_t must_of_most[TOTALS] = {
+        UINT64_C(30064771065), UINT64_C(12884901885), UINT64_C(12884901885), UINT32_MAX, UINT32_MAX, UINT64_C(8589934590), UINT32_MAX};
+    static const uint16_t loop[3] = {0, 2, 1};
+    test_totals_of(counts, must);
+    test_totals_of(most, must_of_most);
+    test_totals_refused(loop, 3, 12, 3, 3, LCA_LOOP, 1);
+    test_totals_refused(parents, PARTS, WORK - 1, COUNTS - 1, TOTALS - 1, LCA_MISFIT, 4);
+    test_totals_refused(parents, PARTS, WORK, COUNTS - 1, TOTALS - 1, LCA_MISFIT, 9);
+    test_totals_refused(parents, PARTS, WORK, COUNTS, TOTALS - 1, LCA_MISFIT, 10);
+}
+
 /* Parts 1 and 2 are bolted into each other. The refusal changes no table: what was lent is still the known sheet's. */
 static void test_refusal(void)
 {
@@ -248,6 +294,7 @@ int main(void)
     test_list();
     test_trail();
     test_subtree();
+    test_totals();
     test_refusal();
     return all_right ? EXIT_SUCCESS : EXIT_FAILURE;
 }

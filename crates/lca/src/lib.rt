@@ -1,5 +1,5 @@
-// The calls of `tables`, `routes` and `subtrees` for C, and for whatever calls C's functions: a slice is a pointer and its length in cells (include/lca.h). Each
-// returns the number of its refusal, 0 where it is accepted, and stores at `value` the refusal's place, or 0 where it is accepted; of an
+// The calls of `tables`, `routes`, `subtrees` and `wear` for C, and for whatever calls C's functions: a slice is a pointer and its length in cells
+// (include/lca.h). Each returns the number of its refusal, 0 where it is accepted, and stores at `value` the refusal's place, or 0 where it is accepted; of an
 // accepted trail the count of its lifts, of an accepted subtree that of its parts. What it does besides is what the library's call of that name does, by the
 // same contract.
 // `lca_version` is no such call: it says which version of this interface the archive has.
@@ -17,11 +17,12 @@ ghost use Rattle.tables.specs.Check.{CheckGives};
 ghost use Rattle.tables.specs.Lend.{BuildGives, LentGives};
 ghost use Rattle.routes.specs.Answers.{askedBy, PairsGive, TrailGives, ListGives};
 ghost use Rattle.subtrees.specs.Stretch.{LocateGives};
+ghost use Rattle.wear.specs.Totals.{TotalsGive};
 ghost use Rattle.lca.specs.Returned.{numberIn, valueIn, outcomeOf, locatedCount, Returned};
 ghost use Rattle.lca.specs.Version.{version};
 
 // The version of the interface, as LCA_VERSION in include/lca.h has it.
-const VERSION: u32 = 2;
+const VERSION: u32 = 3;
 
 // The version of the interface that the archive has.
 #[no_mangle]
@@ -215,6 +216,23 @@ pub extern "C" fn lca_subtree(
 {
     let r = subtrees::locate(parents, label, tour, lift, order, work, part);
     located(r, start, value)
+}
+
+// The wear of each part's assembly: `wear::totals`.
+#[no_mangle]
+pub extern "C" fn lca_totals(
+    parents: &[u16],
+    work: &mut [u16],
+    counts: &[u32],
+    totals: &mut [u64],
+    value: &mut u64,
+) -> u32
+    ensures { λ number. ⌜ Returned outcomeOf
+        (λ r. TotalsGive (now (parents .entry)) (now (work .entry)) (now (counts .entry)) (now (totals .entry)) r (now (totals .exit)) (now (work .exit)))
+        number (now (value .exit)) ⌝ }
+{
+    let r = wear::totals(parents, work, counts, totals);
+    returned(r, value)
 }
 
 // An outcome as C sees it.
