@@ -16,6 +16,10 @@
 use crate::ffi;
 use crate::Refusal;
 
+mod answers;
+
+pub use answers::{list, pairs_by_labels, pairs_by_lifts, pairs_by_tour, trail};
+
 /// The version of the C interface that the archive has which is linked. [`VERSION`](crate::VERSION) is what this crate is written for.
 pub fn version() -> u32 {
     // SAFETY: the function takes nothing and returns a number.
@@ -100,107 +104,6 @@ pub fn compare(
     outcome(number, value).map(drop)
 }
 
-/// The carrier of each pair, by the label table (tests 1 to 11), in constant time a further pair.
-pub fn pairs_by_labels(
-    parents: &[u16],
-    label: &[u16],
-    tour: &[u16],
-    lift: &[u16],
-    order: &[u16],
-    work: &mut [u16],
-    question: &[u16],
-    answer: &mut [u16],
-) -> Result<(), Refusal> {
-    let (call, tables) = (ffi::lca_pairs_by_labels, [label, tour, lift, order]);
-    ask(call, parents, tables, work, question, answer)
-}
-
-/// The carrier of each pair, by the tour table (tests 1 to 11), in constant time a further pair.
-pub fn pairs_by_tour(
-    parents: &[u16],
-    label: &[u16],
-    tour: &[u16],
-    lift: &[u16],
-    order: &[u16],
-    work: &mut [u16],
-    question: &[u16],
-    answer: &mut [u16],
-) -> Result<(), Refusal> {
-    let (call, tables) = (ffi::lca_pairs_by_tour, [label, tour, lift, order]);
-    ask(call, parents, tables, work, question, answer)
-}
-
-/// The carrier of each pair, by the lift table (tests 1 to 11), in up to about 2 log n + 2 steps a further pair.
-pub fn pairs_by_lifts(
-    parents: &[u16],
-    label: &[u16],
-    tour: &[u16],
-    lift: &[u16],
-    order: &[u16],
-    work: &mut [u16],
-    question: &[u16],
-    answer: &mut [u16],
-) -> Result<(), Refusal> {
-    let (call, tables) = (ffi::lca_pairs_by_lifts, [label, tour, lift, order]);
-    ask(call, parents, tables, work, question, answer)
-}
-
-/// The carrier of all the parts listed (tests 1 to 11).
-pub fn list(
-    parents: &[u16],
-    label: &[u16],
-    tour: &[u16],
-    lift: &[u16],
-    order: &[u16],
-    work: &mut [u16],
-    question: &[u16],
-    answer: &mut [u16],
-) -> Result<(), Refusal> {
-    let tables = [label, tour, lift, order];
-    ask(ffi::lca_list, parents, tables, work, question, answer)
-}
-
-/// The carrier of one pair, and its trail (tests 1 to 11): a row of two cells in `rows` for each lift, x's side and then y's, and
-/// [`NO_CELL`](crate::cells::NO_CELL) after them. Gives the count of lifts.
-pub fn trail(
-    parents: &[u16],
-    label: &[u16],
-    tour: &[u16],
-    lift: &[u16],
-    order: &[u16],
-    work: &mut [u16],
-    question: &[u16],
-    answer: &mut [u16],
-    rows: &mut [u16],
-) -> Result<u64, Refusal> {
-    let mut value = 0;
-    // SAFETY: as in `compare`; the question too is only read, and `answer` and `rows` overlap nothing.
-    let number = unsafe {
-        ffi::lca_trail(
-            parents.as_ptr(),
-            parents.len(),
-            label.as_ptr(),
-            label.len(),
-            tour.as_ptr(),
-            tour.len(),
-            lift.as_ptr(),
-            lift.len(),
-            order.as_ptr(),
-            order.len(),
-            work.as_mut_ptr(),
-            work.len(),
-            question.as_ptr(),
-            question.len(),
-            answer.as_mut_ptr(),
-            answer.len(),
-            rows.as_mut_ptr(),
-            rows.len(),
-            &mut value,
-        )
-    };
-    outcome(number, value)
-}
-
 /// The subtree of a part (tests 1 to 8, and 10 of the part, at 0): the parts that it carries, in preorder and itself first. They are cells of
 /// `order` itself, never a copy.
 pub fn subtree<'a>(
@@ -235,62 +138,6 @@ pub fn subtree<'a>(
     };
     let count = outcome(number, value)?;
     Ok(&order[start as usize..][..count as usize])
-}
-
-/// A C function for pairs or a list: a pointer and a length for each of parents, label, tour, lift, order, work, question and answer.
-type Answering = unsafe extern "C" fn(
-    *const u16,
-    usize,
-    *const u16,
-    usize,
-    *const u16,
-    usize,
-    *const u16,
-    usize,
-    *const u16,
-    usize,
-    *mut u16,
-    usize,
-    *const u16,
-    usize,
-    *mut u16,
-    usize,
-    *mut u64,
-) -> u32;
-
-#[inline]
-fn ask(
-    call: Answering,
-    parents: &[u16],
-    [label, tour, lift, order]: [&[u16]; 4],
-    work: &mut [u16],
-    question: &[u16],
-    answer: &mut [u16],
-) -> Result<(), Refusal> {
-    let mut value = 0;
-    // SAFETY: as in `trail`; `call` is one of the library's functions of this type, each of which takes any lengths and contents.
-    let number = unsafe {
-        call(
-            parents.as_ptr(),
-            parents.len(),
-            label.as_ptr(),
-            label.len(),
-            tour.as_ptr(),
-            tour.len(),
-            lift.as_ptr(),
-            lift.len(),
-            order.as_ptr(),
-            order.len(),
-            work.as_mut_ptr(),
-            work.len(),
-            question.as_ptr(),
-            question.len(),
-            answer.as_mut_ptr(),
-            answer.len(),
-            &mut value,
-        )
-    };
-    outcome(number, value).map(drop)
 }
 
 /// The C function's result and what it left in `value`, told apart.

@@ -1,5 +1,6 @@
 //! What the C functions leave in `value`, and a subtree's in `start`, on the sheet `1 1`.
 
+use super::answers::Answering;
 use crate::ffi;
 
 const PARENTS: [u16; 2] = [1, 1];
@@ -14,7 +15,7 @@ const ORDER: [u16; 2] = [1, 0];
 const BEFORE: u64 = u64::MAX;
 
 /// Asks by `call`: the result, the answer and the value.
-fn ask(call: super::Answering, question: &[u16], label: &[u16]) -> (u32, u16, u64) {
+fn ask(call: Answering, question: &[u16], label: &[u16]) -> (u32, u16, u64) {
     let (mut work, mut answer, mut value) = ([0; 8], [9], BEFORE);
     // SAFETY: each pointer and length are one array's, and no two of those overlap.
     let number = unsafe {
