@@ -5,7 +5,8 @@
 //! a trail's two, a list's any number; an answer has one cell for each pair, or one for a list or a trail.
 //!
 //! `work` is the call's own: what it holds before makes no difference. Afterwards it is all zero, or unchanged after refusals 1 to 3. A
-//! refused call changes no other buffer, and an accepted one fills every cell of its answer, its rows, or the tables that it builds.
+//! refused call changes no other buffer, and an accepted one fills every cell of its answer, its rows, its totals, or the tables that it
+//! builds.
 //!
 //! A call that answers first tests the sheet and compares the tables with it, once whatever the number of its questions. That takes time in
 //! proportion to the tables; what is said below of a pair is what a further pair of the same call costs. [`Tree`](crate::Tree) has the
@@ -138,6 +139,32 @@ pub fn subtree<'a>(
     };
     let count = outcome(number, value)?;
     Ok(&order[start as usize..][..count as usize])
+}
+
+/// Wear by assembly (tests 1 to 7): fills `totals` with each part's total, the sum of the counts of all parts that it carries. Of the root
+/// that is the sum of all counts. It is lent no tables, and what `totals` held before makes no difference.
+pub fn totals(
+    parents: &[u16],
+    work: &mut [u16],
+    counts: &[u32],
+    totals: &mut [u64],
+) -> Result<(), Refusal> {
+    let mut value = 0;
+    // SAFETY: as in `check`; the counts are only read, and `totals` is lent for writing, so it overlaps nothing.
+    let number = unsafe {
+        ffi::lca_totals(
+            parents.as_ptr(),
+            parents.len(),
+            work.as_mut_ptr(),
+            work.len(),
+            counts.as_ptr(),
+            counts.len(),
+            totals.as_mut_ptr(),
+            totals.len(),
+            &mut value,
+        )
+    };
+    outcome(number, value).map(drop)
 }
 
 /// The C function's result and what it left in `value`, told apart.

@@ -57,6 +57,24 @@ pub const fn work(n: usize) -> usize {
     }
 }
 
+/// The cells of the counts, of 32 bits each: n.
+pub const fn counts(n: usize) -> usize {
+    if has_tables(n) {
+        n
+    } else {
+        0
+    }
+}
+
+/// The cells of the totals, of 64 bits each: n.
+pub const fn totals(n: usize) -> usize {
+    if has_tables(n) {
+        n
+    } else {
+        0
+    }
+}
+
 const fn has_tables(n: usize) -> bool {
     0 < n && n <= MOST_PARTS
 }
@@ -65,19 +83,19 @@ const fn has_tables(n: usize) -> bool {
 mod tests {
     use super::*;
 
-    /// All lengths for n parts: label, tour, lift, order and work.
-    fn all(n: usize) -> [usize; 5] {
-        [label(n), tour(n), lift(n), order(n), work(n)]
+    /// All lengths for n parts: label, tour, lift, order, work, counts and totals.
+    fn all(n: usize) -> [usize; 7] {
+        [label, tour, lift, order, work, counts, totals].map(|cells| cells(n))
     }
 
     #[test]
     fn seven_parts_have_42_72_21_and_7_cells() {
-        assert_eq!(all(7), [42, 72, 21, 7, 28]);
+        assert_eq!(all(7), [42, 72, 21, 7, 28, 7, 7]);
     }
 
     #[test]
     fn one_part_has_a_tour_of_one_visit() {
-        assert_eq!(all(1), [6, 3, 1, 1, 4]);
+        assert_eq!(all(1), [6, 3, 1, 1, 4, 1, 1]);
     }
 
     #[test]
@@ -88,12 +106,14 @@ mod tests {
         assert_eq!(lift(MOST_PARTS), 16_384 * 15);
         assert_eq!(order(MOST_PARTS), 16_384);
         assert_eq!(work(MOST_PARTS), 65_536);
+        assert_eq!(counts(MOST_PARTS), 16_384);
+        assert_eq!(totals(MOST_PARTS), 16_384);
     }
 
     #[test]
     fn no_other_length_has_tables() {
         for n in [0, MOST_PARTS + 1, usize::MAX] {
-            assert_eq!(all(n), [0; 5]);
+            assert_eq!(all(n), [0; 7]);
         }
     }
 }

@@ -162,4 +162,16 @@ extern "C" {
         start: *mut u64,
         value: *mut u64,
     ) -> u32;
+
+    pub fn lca_totals(
+        parents: *const u16,
+        parents_len: usize,
+        work: *mut u16,
+        work_len: usize,
+        counts: *const u32,
+        counts_len: usize,
+        totals: *mut u64,
+        totals_len: usize,
+        value: *mut u64,
+    ) -> u32;
 }

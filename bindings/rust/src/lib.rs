@@ -14,6 +14,8 @@
 //! | lift | one raise by the lift route, of one part or of both, by 2^k steps |
 //! | trail | the lifts of a pair in order: after each, where the two parts are ([`Trail`]) |
 //! | preorder | an order of the parts: the root first, a part before all else that it carries, and parts with one entry by rising number |
+//! | count | of a part, its wear, a whole number of 32 bits |
+//! | total | of a part, the wear of its assembly, in 64 bits: the sum of the counts of all parts that it carries ([`Tree::totals`]) |
 //!
 //! ```
 //! use lca::Tree;
@@ -26,6 +28,7 @@
 //! assert_eq!(tree.list(&[6, 5, 2])?, 2);
 //! assert_eq!(tree.trail(3, 6)?.rows, [(3, 5), (1, 2), (0, 0)]);
 //! assert_eq!(tree.subtree(2)?, [2, 5, 6]);
+//! assert_eq!(tree.totals(&[1, 2, 4, 8, 16, 32, 64])?, [127, 26, 100, 8, 16, 96, 64]);
 //!
 //! // What cannot be answered is refused, with a number and a place.
 //! let refusal = tree.carrier(3, 7).unwrap_err();
@@ -68,7 +71,7 @@ pub use tree::Tree;
 /// ```
 /// assert_eq!(lca::calls::version(), lca::VERSION);
 /// ```
-pub const VERSION: u32 = 2;
+pub const VERSION: u32 = 3;
 
 #[cfg(doctest)]
 #[doc = include_str!("../README.md")]

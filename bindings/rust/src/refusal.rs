@@ -32,7 +32,7 @@ impl Refusal {
     /// The sheet has more than [`MOST_PARTS`](crate::cells::MOST_PARTS) parts. Place: 0.
     pub const OVERSIZE: u32 = 2;
     /// A buffer hasn't its exact length. Place: the lowest such buffer, of 1 label, 2 tour, 3 lift, 4 work, 5 question, 6 answer, 7 trail,
-    /// 8 order.
+    /// 8 order, 9 counts, 10 totals.
     pub const MISFIT: u32 = 3;
     /// An entry is n or more, of n parts. Place: the lowest part with such an entry.
     pub const OFF_SHEET: u32 = 4;

@@ -85,6 +85,7 @@ fn in_rust(argument: &str) -> String {
     let kind = match argument.strip_suffix(name).unwrap().trim() {
         "const uint16_t *" => "*const u16",
         "uint16_t *" => "*mut u16",
+        "const uint32_t *" => "*const u32",
         "uint64_t *" => "*mut u64",
         "size_t" => "usize",
         other => panic!("{other}"),

@@ -1,4 +1,4 @@
-//! Document 01's known sheets and the card of numbers, worked out by hand. Subtrees are in `subtrees.rs`.
+//! Document 01's known sheets and the card of numbers, worked out by hand. Subtrees are in `subtrees.rs`, totals in `totals.rs`.
 
 use lca::{calls, Refusal, Route, Trail, Tree};
 

@@ -1,4 +1,4 @@
-//! What the C functions leave in `value`, and a subtree's in `start`, on the sheet `1 1`.
+//! What the C functions leave in `value`, and a subtree's in `start`, on the sheet `1 1`; of totals, every cell.
 
 use super::answers::Answering;
 use crate::ffi;
@@ -201,4 +201,37 @@ fn a_refused_subtree_s_value_is_the_place_and_its_start_is_0() {
         assert_eq!(subtree(part, &[1, 1]), (8, 0, 28, [0; 8]));
         assert_eq!(subtree(part, &ORDER[1..]), (3, 0, 8, [7; 8]));
     }
+}
+
+/// Asks for totals, with these counts: the result, `value`, the totals and work.
+fn totals(parents: &[u16; 2], counts: &[u32]) -> (u32, u64, [u64; 2], [u16; 8]) {
+    let (mut work, mut totals, mut value) = ([7; 8], [9; 2], BEFORE);
+    // SAFETY: each pointer and length are one array's, and no two of those overlap.
+    let number = unsafe {
+        ffi::lca_totals(
+            parents.as_ptr(),
+            parents.len(),
+            work.as_mut_ptr(),
+            work.len(),
+            counts.as_ptr(),
+            counts.len(),
+            totals.as_mut_ptr(),
+            totals.len(),
+            &mut value,
+        )
+    };
+    (number, value, totals, work)
+}
+
+#[test]
+fn accepted_totals_value_is_0_and_a_refused_call_s_the_place() {
+    assert_eq!(totals(&PARENTS, &[3, 4]), (0, 0, [3, 7], [0; 8]));
+    let most = u32::MAX;
+    let twice = 2 * u64::from(most);
+    assert_eq!(
+        totals(&PARENTS, &[most, most]),
+        (0, 0, [most.into(), twice], [0; 8])
+    );
+    assert_eq!(totals(&[0, 1], &[3, 4]), (6, 1, [9; 2], [0; 8]));
+    assert_eq!(totals(&PARENTS, &[3]), (3, 9, [9; 2], [7; 8]));
 }

@@ -1,4 +1,4 @@
-//! The questions: pairs by each route, a list, a trail, a subtree.
+//! The questions: pairs by each route, a list, a trail, a subtree, totals.
 
 use super::{zeros, Tree};
 use crate::{calls, cells, Refusal, Route, Trail};
@@ -146,6 +146,32 @@ impl Tree {
             &mut self.work(),
             part.into(),
         )
+    }
+
+    /// Wear by assembly: each part's total, the sum of the counts of all parts that it carries. There is a count for each part, or the
+    /// refusal is a misfit of buffer 9.
+    ///
+    /// The root's total is the sum of all counts, and no total wraps. The sheet is tested once more (tests 1 to 7), and no table is read:
+    /// [`calls::totals`] does the same from a sheet alone.
+    ///
+    /// ```
+    /// use lca::{Refusal, Tree};
+    ///
+    /// # fn main() -> Result<(), Refusal> {
+    /// let tree = Tree::new(&[0, 0, 0, 1, 1, 2, 5])?;
+    /// let totals = tree.totals(&[1, 2, 4, 8, 16, 32, 64])?;
+    /// // Part 1 carries 1, 3 and 4: 2 + 8 + 16. Part 2 carries 2, 5 and 6: 4 + 32 + 64.
+    /// assert_eq!(totals, [127, 26, 100, 8, 16, 96, 64]);
+    ///
+    /// let refusal = tree.totals(&[1, 2, 4]).unwrap_err();
+    /// assert_eq!(refusal, Refusal { number: Refusal::MISFIT, place: 9 });
+    /// # Ok(())
+    /// # }
+    /// ```
+    pub fn totals(&self, counts: &[u32]) -> Result<Vec<u64>, Refusal> {
+        let mut totals = vec![0; cells::totals(self.len())];
+        calls::totals(&self.parents, &mut self.work(), counts, &mut totals)?;
+        Ok(totals)
     }
 
     fn work(&self) -> Box<[u16]> {

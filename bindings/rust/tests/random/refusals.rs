@@ -47,7 +47,7 @@ fn assert_stale(case: &mut Case, buffer: usize, cell: usize) {
     for call in Call::ALL.into_iter().filter(|call| call.reads_tables()) {
         let mut lent = case.lent(call);
         let tables = TABLES.into_iter().take_while(|&table| table != buffer);
-        let before: usize = tables.map(|table| lent.buffer(table).len()).sum();
+        let before: usize = tables.map(|table| lent.table(table).len()).sum();
         change(&mut lent, buffer, cell, &mut case.rng);
         name_no_part(&mut lent, &mut case.rng);
         let result = case.agree(call, &lent);
@@ -60,7 +60,7 @@ fn every_cell_of_a_short_sheet_s_tables_counts() {
     for mut case in sound_cases(24, 1, 8) {
         let mut lent = case.lent(Call::Compare);
         for buffer in TABLES {
-            for cell in 0..lent.buffer(buffer).len() {
+            for cell in 0..lent.table(buffer).len() {
                 assert_stale(&mut case, buffer, cell);
             }
         }
@@ -127,7 +127,7 @@ fn alter(case: &mut Case, call: Call, lent: &mut Lent) {
     let rng = &mut case.rng;
     for _ in 0..rng.below(4) {
         match rng.below(8) {
-            0 => alter_length(lent, 1 + rng.below(8), rng.pick(&Length::ALL)),
+            0 => alter_length(lent, 1 + rng.below(10), rng.pick(&Length::ALL)),
             1 => empty_question(lent, call),
             2..=4 => name_no_part(lent, rng),
             _ => alter_cell(lent, rng),

@@ -5,7 +5,7 @@ use std::thread;
 use lca::{Refusal, Route, Trail, Tree};
 
 use crate::model::{
-    carrier, common_carrier, subtree, trail, Call, Refused, Tables, MOST_PARTS, TABLES,
+    carrier, common_carrier, subtree, totals, trail, Call, Refused, Tables, MOST_PARTS, TABLES,
 };
 use crate::support::{alter_cell, alter_length, sound_cases, Case, Damage, Length, Rng, Shape};
 
@@ -95,6 +95,26 @@ fn a_tree_s_subtrees_are_stretches_of_its_order_table() {
     }
 }
 
+/// The totals are the plain model's, the sums over the tree's own subtrees, and with equal counts so many times SIZE.
+#[test]
+fn a_tree_s_totals_are_sums_over_its_subtrees() {
+    for mut case in sound_cases(200, 1, 60) {
+        let n = case.n();
+        let tree = Tree::new(&case.parents).unwrap();
+        let counts = case.rng.counts(n);
+        let found = tree.totals(&counts).unwrap();
+        assert_eq!(found, totals(&case.parents, &counts), "{}", case.note);
+        let most = tree.totals(&vec![u32::MAX; n]).unwrap();
+        for part in 0..n {
+            let carried = tree.subtree(part as u16).unwrap().iter();
+            let sum: u64 = carried.map(|&v| u64::from(counts[v as usize])).sum();
+            assert_eq!(found[part], sum, "part {part}, {}", case.note);
+            let size = u64::from(tree.label()[n + part]);
+            assert_eq!(most[part], size * u64::from(u32::MAX), "{}", case.note);
+        }
+    }
+}
+
 #[test]
 fn a_tree_refuses_questions() {
     for mut case in sound_cases(60, 1, 60) {
@@ -120,6 +140,9 @@ fn a_tree_refuses_questions() {
         assert_eq!(refused(tree.trail(0, 65_535)), (10, 1), "{}", case.note);
         assert_eq!(refused(tree.subtree(n as u16)), (10, 0), "{}", case.note);
         assert_eq!(refused(tree.subtree(65_535)), (10, 0), "{}", case.note);
+        for cells in [0, n - 1, n + 1, 4 * n] {
+            assert_eq!(refused(tree.totals(&vec![7; cells])), (3, 9));
+        }
     }
 }
 

@@ -1,4 +1,4 @@
-//! Carriers, trails and subtrees, by climbing.
+//! Carriers, trails, subtrees and totals, by climbing.
 
 use super::sheet::carriers;
 use super::tables::log;
@@ -57,6 +57,17 @@ pub fn subtree(parents: &[u16], order: &[u16], part: u16) -> Vec<u16> {
     carried
         .filter(|&v| carriers(parents, v).contains(&part))
         .collect()
+}
+
+/// Each part's total: each count is added for every part that its own climb meets, and no total is made from another.
+pub fn totals(parents: &[u16], counts: &[u32]) -> Vec<u64> {
+    let mut totals = vec![0; parents.len()];
+    for (part, &count) in counts.iter().enumerate() {
+        for above in carriers(parents, part as u16) {
+            totals[above as usize] += u64::from(count);
+        }
+    }
+    totals
 }
 
 /// The part so many steps up, staying at the root.

@@ -1,6 +1,7 @@
 //! What each call gives, and what it leaves in every buffer.
 
-use super::answers::{carrier, common_carrier, subtree, trail};
+use super::answers::{carrier, common_carrier, subtree, totals, trail};
+use super::lent::Lent;
 use super::sheet::{not_one_tree, Refused, MOST_PARTS};
 use super::tables::{Tables, NONE};
 
@@ -15,10 +16,11 @@ pub enum Call {
     List,
     Trail,
     Subtree,
+    Totals,
 }
 
 impl Call {
-    pub const ALL: [Call; 9] = [
+    pub const ALL: [Call; 10] = [
         Call::Check,
         Call::Build,
         Call::Compare,
@@ -28,11 +30,12 @@ impl Call {
         Call::List,
         Call::Trail,
         Call::Subtree,
+        Call::Totals,
     ];
 
     /// Whether the call is lent tables to read.
     pub fn reads_tables(self) -> bool {
-        !matches!(self, Call::Check | Call::Build)
+        !matches!(self, Call::Check | Call::Build | Call::Totals)
     }
 
     /// Whether the call is lent a question and an answer.
@@ -47,68 +50,12 @@ impl Call {
     /// Whether the call is lent the buffer of this number.
     pub fn takes(self, buffer: usize) -> bool {
         match buffer {
-            1..=3 | 8 => self != Call::Check,
+            1..=3 | 8 => self.reads_tables() || self == Call::Build,
             4 => true,
             5 | 6 => self.answers(),
-            _ => self == Call::Trail,
+            7 => self == Call::Trail,
+            _ => self == Call::Totals,
         }
-    }
-}
-
-/// The numbers of the buffers.
-pub const BUFFERS: std::ops::RangeInclusive<usize> = 1..=8;
-
-/// Those of the tables, as they are compared end to end.
-pub const TABLES: [usize; 4] = [1, 2, 3, 8];
-
-/// All buffers; a call takes those that it has.
-#[derive(Clone, Default)]
-pub struct Lent {
-    pub parents: Vec<u16>,
-    pub label: Vec<u16>,
-    pub tour: Vec<u16>,
-    pub lift: Vec<u16>,
-    pub work: Vec<u16>,
-    pub question: Vec<u16>,
-    pub answer: Vec<u16>,
-    pub trail: Vec<u16>,
-    pub order: Vec<u16>,
-    /// The part whose subtree is asked for.
-    pub part: usize,
-    /// The subtree that is handed back: the cell of the order table at which it begins, and its cells.
-    pub found: Option<(usize, Vec<u16>)>,
-}
-
-impl Lent {
-    /// The buffer of this number, 1 to 8.
-    pub fn buffer(&mut self, number: usize) -> &mut Vec<u16> {
-        match number {
-            1 => &mut self.label,
-            2 => &mut self.tour,
-            3 => &mut self.lift,
-            4 => &mut self.work,
-            5 => &mut self.question,
-            6 => &mut self.answer,
-            7 => &mut self.trail,
-            _ => &mut self.order,
-        }
-    }
-
-    /// The lowest buffer of the call without its exact length.
-    fn misfit(&mut self, call: Call) -> Option<usize> {
-        let n = self.parents.len();
-        let [label, tour, lift, order] = Tables::lengths(n);
-        let asked = self.question.len();
-        let question = match call {
-            Call::List => asked,
-            Call::Trail => 2,
-            _ => asked / 2 * 2,
-        };
-        let answer = if call.is_of_pairs() { asked / 2 } else { 1 };
-        let exact = [label, tour, lift, 4 * n, question, answer, 64, order];
-        BUFFERS
-            .filter(|&b| call.takes(b))
-            .find(|&b| self.buffer(b).len() != exact[b - 1])
     }
 }
 
@@ -155,6 +102,9 @@ impl Plain {
         }
         if call == Call::Subtree {
             return locate(own, lent);
+        }
+        if call == Call::Totals {
+            lent.totals = totals(&lent.parents, &lent.counts);
         }
         Ok(0)
     }

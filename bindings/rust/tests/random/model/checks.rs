@@ -30,6 +30,8 @@ fn the_known_sheet() {
     assert_eq!(subtree(&KNOWN, &own.order, 2), [2, 5, 6]);
     assert_eq!(subtree(&KNOWN, &own.order, 6), [6]);
     assert_eq!(subtree(&KNOWN, &own.order, 0), own.order);
+    let counts = [1, 2, 4, 8, 16, 32, 64];
+    assert_eq!(totals(&KNOWN, &counts), [127, 26, 100, 8, 16, 96, 64]);
 }
 
 #[test]
@@ -78,6 +80,23 @@ fn a_subtree_is_a_stretch_of_the_order_table() {
             for v in 0..case.n() as u16 {
                 let carried = carriers(&case.parents, v).contains(&part);
                 assert_eq!(found.contains(&v), carried, "{}", case.note);
+            }
+        }
+    }
+}
+
+/// "the sum of counts over all parts it carries"; "The root's total is the sum of the list."
+#[test]
+fn a_total_is_the_sum_over_the_parts_that_are_carried() {
+    for mut case in sound_cases(60, 1, 30) {
+        let counts = case.rng.counts(case.parents.len());
+        let sum = |parts: &[u16]| -> u64 { parts.iter().map(|&v| counts[v as usize] as u64).sum() };
+        let order = &own(&case).order;
+        for (part, &total) in (0..).zip(&totals(&case.parents, &counts)) {
+            let carried = subtree(&case.parents, order, part);
+            assert_eq!(total, sum(&carried), "{}", case.note);
+            if case.parents[part as usize] == part {
+                assert_eq!(total, sum(order), "{}", case.note);
             }
         }
     }

@@ -4,10 +4,12 @@
 mod answers;
 mod calls;
 mod checks;
+mod lent;
 mod sheet;
 mod tables;
 
-pub use answers::{carrier, common_carrier, subtree, trail};
-pub use calls::{Call, Lent, Plain, BUFFERS, TABLES};
+pub use answers::{carrier, common_carrier, subtree, totals, trail};
+pub use calls::{Call, Plain};
+pub use lent::{Lent, BUFFERS, TABLES};
 pub use sheet::{carriers, not_one_tree, Refused, MOST_PARTS};
 pub use tables::{log, Tables, NONE};

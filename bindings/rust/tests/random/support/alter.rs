@@ -17,28 +17,26 @@ impl Length {
 /// Gives the buffer of this number another length.
 pub fn alter_length(lent: &mut Lent, buffer: usize, length: Length) {
     let cells = lent.buffer(buffer);
-    match length {
-        Length::OneShort => {
-            cells.pop();
-        }
-        Length::OneLong => cells.push(0),
-        Length::Empty => cells.clear(),
-    }
+    cells.set_length(match length {
+        Length::OneShort => cells.length().saturating_sub(1),
+        Length::OneLong => cells.length() + 1,
+        Length::Empty => 0,
+    });
 }
 
-/// Changes one cell of a buffer to any other number.
-pub fn change(lent: &mut Lent, buffer: usize, cell: usize, rng: &mut Rng) {
-    lent.buffer(buffer)[cell] ^= 1 + rng.below(65_535) as u16;
+/// Changes one cell of a table to any other number.
+pub fn change(lent: &mut Lent, table: usize, cell: usize, rng: &mut Rng) {
+    lent.table(table)[cell] ^= 1 + rng.below(65_535) as u16;
 }
 
 /// Changes one cell of a table, if the table has any: the first or last of a section as often as any other.
 pub fn alter_cell(lent: &mut Lent, rng: &mut Rng) {
     let edge = rng.pick(&edges(lent.parents.len().max(1)));
-    let buffer = rng.pick(&TABLES);
-    let anywhere = (buffer, rng.below(lent.buffer(buffer).len().max(1)));
-    let (buffer, cell) = rng.pick(&[edge, anywhere]);
-    if cell < lent.buffer(buffer).len() {
-        change(lent, buffer, cell, rng);
+    let table = rng.pick(&TABLES);
+    let anywhere = (table, rng.below(lent.table(table).len().max(1)));
+    let (table, cell) = rng.pick(&[edge, anywhere]);
+    if cell < lent.table(table).len() {
+        change(lent, table, cell, rng);
     }
 }
 

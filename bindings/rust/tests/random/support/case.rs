@@ -1,5 +1,7 @@
 //! One sheet, on which the library is compared with the plain model.
 
+use std::fmt::Display;
+
 use super::fenced::run;
 use super::{damaged, sheet, Damage, Rng, Shape};
 use crate::model::{Call, Lent, Plain, Refused, Tables, BUFFERS};
@@ -63,6 +65,8 @@ impl Case {
             answer: rng.cells(if call.is_of_pairs() { asked / 2 } else { 1 }),
             trail: rng.cells(64),
             order: rng.cells(order),
+            counts: rng.counts(n),
+            totals: (0..n).map(|_| rng.next()).collect(),
             part: rng.below(n.max(1)),
             found: None,
         };
@@ -87,7 +91,8 @@ impl Case {
         assert_same("the sheet", &got.parents, &want.parents, &note);
         for buffer in BUFFERS {
             let name = format!("buffer {buffer}");
-            assert_same(&name, got.buffer(buffer), want.buffer(buffer), &note);
+            let (got, want) = (got.buffer(buffer).wide(), want.buffer(buffer).wide());
+            assert_same(&name, &got, &want, &note);
         }
         result
     }
@@ -101,7 +106,7 @@ pub fn sound_cases(count: u64, least: usize, most: usize) -> impl Iterator<Item 
     })
 }
 
-fn assert_same(name: &str, got: &[u16], want: &[u16], note: &str) {
+fn assert_same<T: PartialEq + Display>(name: &str, got: &[T], want: &[T], note: &str) {
     assert_eq!(got.len(), want.len(), "length of {name}: {note}");
     if let Some(i) = (0..got.len()).find(|&i| got[i] != want[i]) {
         panic!("cell {i} of {name} is {}, not {}: {note}", got[i], want[i]);

@@ -4,38 +4,59 @@ use lca::{calls, Refusal};
 
 use crate::model::{Call, Lent, Refused};
 
-const FENCE: [u16; 3] = [0xfe1e, 0xce11, 0x5afe];
+/// A cell of some width, and the fence of such cells.
+trait Cell: Copy + PartialEq {
+    const FENCE: [Self; 3];
+}
+
+impl Cell for u16 {
+    const FENCE: [u16; 3] = [0xfe1e, 0xce11, 0x5afe];
+}
+
+impl Cell for u32 {
+    const FENCE: [u32; 3] = [0xfe1e_ce11, 0xce11_5afe, 0x5afe_fe1e];
+}
+
+impl Cell for u64 {
+    const FENCE: [u64; 3] = [
+        0xfe1e_ce11_5afe_fe1e,
+        0xce11_5afe_fe1e_ce11,
+        0x5afe_fe1e_ce11_5afe,
+    ];
+}
 
 /// A copy of a buffer, between two fences.
-struct Fenced(Vec<u16>);
+struct Fenced<T>(Vec<T>);
 
-impl Fenced {
-    fn new(cells: &[u16]) -> Fenced {
-        Fenced([&FENCE, cells, &FENCE].concat())
+impl<T: Cell> Fenced<T> {
+    fn new(cells: &[T]) -> Fenced<T> {
+        Fenced([&T::FENCE, cells, &T::FENCE].concat())
     }
 
-    fn cells(&mut self) -> &mut [u16] {
-        let end = self.0.len() - FENCE.len();
-        &mut self.0[FENCE.len()..end]
+    fn cells(&mut self) -> &mut [T] {
+        let end = self.0.len() - T::FENCE.len();
+        &mut self.0[T::FENCE.len()..end]
     }
 
-    fn into_cells(mut self) -> Vec<u16> {
-        assert!(self.0.starts_with(&FENCE) && self.0.ends_with(&FENCE));
+    fn into_cells(mut self) -> Vec<T> {
+        assert!(self.0.starts_with(&T::FENCE) && self.0.ends_with(&T::FENCE));
         self.cells().to_vec()
     }
 }
 
 /// All buffers, fenced, and the part whose subtree is asked for.
 struct Room {
-    parents: Fenced,
-    label: Fenced,
-    tour: Fenced,
-    lift: Fenced,
-    work: Fenced,
-    question: Fenced,
-    answer: Fenced,
-    trail: Fenced,
-    order: Fenced,
+    parents: Fenced<u16>,
+    label: Fenced<u16>,
+    tour: Fenced<u16>,
+    lift: Fenced<u16>,
+    work: Fenced<u16>,
+    question: Fenced<u16>,
+    answer: Fenced<u16>,
+    trail: Fenced<u16>,
+    order: Fenced<u16>,
+    counts: Fenced<u32>,
+    totals: Fenced<u64>,
     part: usize,
 }
 
@@ -51,6 +72,8 @@ impl Room {
             answer: Fenced::new(&lent.answer),
             trail: Fenced::new(&lent.trail),
             order: Fenced::new(&lent.order),
+            counts: Fenced::new(&lent.counts),
+            totals: Fenced::new(&lent.totals),
             part: lent.part,
         }
     }
@@ -66,6 +89,8 @@ impl Room {
             answer: self.answer.into_cells(),
             trail: self.trail.into_cells(),
             order: self.order.into_cells(),
+            counts: self.counts.into_cells(),
+            totals: self.totals.into_cells(),
             part: self.part,
             found,
         }
@@ -113,6 +138,10 @@ fn call_library(call: Call, room: &mut Room, found: &mut Option<Stretch>) -> Res
             let cells = calls::subtree(parents, label, tour, lift, order, work, room.part)?;
             *found = Some(stretch(order, cells));
             return Ok(cells.len() as u64);
+        }
+        Call::Totals => {
+            let (counts, totals) = (room.counts.cells(), room.totals.cells());
+            return calls::totals(parents, work, counts, totals).map(|()| 0);
         }
         Call::PairsByLabels => calls::pairs_by_labels,
         Call::PairsByTour => calls::pairs_by_tour,

@@ -27,6 +27,15 @@ impl Rng {
         (0..count).map(|_| self.cell()).collect()
     }
 
+    /// So many counts of wear: any, and often none or the most there can be.
+    pub fn counts(&mut self, count: usize) -> Vec<u32> {
+        let mut one = || {
+            let any = self.next() as u32;
+            self.pick(&[any, any, 0, u32::MAX])
+        };
+        (0..count).map(|_| one()).collect()
+    }
+
     pub fn pick<T: Copy>(&mut self, from: &[T]) -> T {
         from[self.below(from.len())]
     }
