@@ -2,7 +2,9 @@
 
 use lca::cells;
 
-/// A sheet with its tables and scratch. All candidates are lent the same buffers in turn, so place and alignment are the same for all.
+use crate::sheets::{counts, Draw};
+
+/// A sheet with its tables, its counts of wear and scratch. All candidates are lent the same buffers in turn, so place and alignment are the same for all.
 #[derive(Clone, PartialEq, Eq, Debug)]
 pub struct Buffers {
     pub parents: Vec<u16>,
@@ -11,10 +13,12 @@ pub struct Buffers {
     pub lift: Vec<u16>,
     pub order: Vec<u16>,
     pub work: Vec<u16>,
+    pub counts: Vec<u32>,
+    pub totals: Vec<u64>,
 }
 
 impl Buffers {
-    /// Cleared tables for a sheet.
+    /// Cleared tables and totals for a sheet, with counts that are the same in every run.
     pub fn new(parents: Vec<u16>) -> Self {
         let n = parents.len();
         Buffers {
@@ -23,6 +27,8 @@ impl Buffers {
             lift: vec![0; cells::lift(n)],
             order: vec![0; cells::order(n)],
             work: vec![0; cells::work(n)],
+            counts: counts(cells::counts(n), &mut Draw::new(n as u64 + 2)),
+            totals: vec![0; cells::totals(n)],
             parents,
         }
     }

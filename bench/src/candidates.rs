@@ -23,6 +23,8 @@ pub type Ask = fn(In, In, In, In, In, Out, In, Out) -> Outcome;
 pub type Trail = fn(In, In, In, In, In, Out, In, Out, Out) -> Outcome;
 /// parents, label, tour, lift, order, work, part
 pub type Subtree = for<'a> fn(In, In, In, In, In<'a>, Out, usize) -> Stretch<'a>;
+/// parents, work, counts, totals
+pub type Totals = fn(In, Out, &[u32], &mut [u64]) -> Outcome;
 
 pub struct Calls {
     pub check: Check,
@@ -33,6 +35,7 @@ pub struct Calls {
     pub list: Ask,
     pub trail: Trail,
     pub subtree: Subtree,
+    pub totals: Totals,
 }
 
 pub const ROUTES: [&str; 3] = ["labels", "tour", "lifts"];
@@ -76,6 +79,11 @@ macro_rules! calls {
             },
             subtree: |p, a, b, c, o, w, part| {
                 from::subtree(p, a, b, c, o, w, part).map_err(|r| (r.number, r.place))
+            },
+            totals: |p, w, c, t| {
+                from::totals(p, w, c, t)
+                    .map(|()| 0)
+                    .map_err(|r| (r.number, r.place))
             },
         }
     }};

@@ -41,6 +41,20 @@ pub fn meets(parents: &[u16], mut v: u16, part: u16) -> bool {
     v == part
 }
 
+/// Each part's total: its count is added for every part that its climb meets.
+pub fn totals(parents: &[u16], counts: &[u32]) -> Vec<u64> {
+    let mut totals = vec![0; parents.len()];
+    for (v, &count) in (0..).zip(counts) {
+        let mut here: u16 = v;
+        totals[here as usize] += u64::from(count);
+        while parents[here as usize] != here {
+            here = parents[here as usize];
+            totals[here as usize] += u64::from(count);
+        }
+    }
+    totals
+}
+
 /// The carrier of all the listed parts, one after another.
 pub fn list(parents: &[u16], question: &[u16]) -> Option<u16> {
     question.iter().copied().reduce(|x, y| lca(parents, x, y))

@@ -12,9 +12,11 @@ mod lift;
 mod locate;
 mod order;
 mod routes;
+mod totals;
 mod tour;
 
 pub use routes::{list, pairs_by_labels, pairs_by_lifts, pairs_by_tour, subtree, trail};
+pub use totals::totals;
 
 /// The most parts of a sheet.
 pub const MOST: usize = 16_384;

@@ -124,6 +124,16 @@ fn subtree(calls: &Calls, s: &mut State) {
     black_box(found).expect("the call is accepted");
 }
 
+fn totals(calls: &Calls, s: &mut State) {
+    let b = &mut s.own;
+    accepted((calls.totals)(
+        &b.parents,
+        &mut b.work,
+        &b.counts,
+        &mut b.totals,
+    ));
+}
+
 fn byte_compare(s: &mut State) {
     black_box(s.own.tables() == s.copy.tables());
 }
@@ -234,6 +244,7 @@ pub fn sheet(budget: Budget, n: usize, shape: Shape) -> Sheet {
     figures.push(both(budget, state, "trail", trail, Some(climb_pair)));
     figures.push(both(budget, state, "list of 100", list, Some(climb_list)));
     figures.push(both(budget, state, "subtree", subtree, None));
+    figures.push(both(budget, state, "totals", totals, None));
     Sheet {
         n,
         shape,

@@ -44,7 +44,7 @@ pub const LEGEND: &str = "\
 Times are of a whole call; of pairs, of a whole call divided by its pairs, and 'each further one' is what a call of 10,000 pairs takes more than one of
 100, a pair. Proved: the library through its C interface. Rust: the independent version. Ratio: proved to Rust, in the same rounds. Beside build: a memory
 copy of the four tables; beside compare: their byte compare with a copy; beside pairs, trail and list: the plain climber, which tests nothing. Trail and
-subtree are of one pair and of one part a call.
+subtree are of one pair and of one part a call; totals are of all parts, and lent no tables.
 ";
 
 /// A row for each size and call; for each shape the proved library, the Rust version, their ratio and what stands beside.

@@ -8,6 +8,8 @@ use crate::candidates::{Ask, Calls, Outcome, PROVED, ROUTES, RUST};
 use crate::climb;
 use crate::sheets::{parts, random, Draw};
 
+mod totals;
+
 type Checked<T = ()> = Result<T, String>;
 
 /// One call of each implementation on copies of the same state; both results and both states must agree.
@@ -230,6 +232,7 @@ fn refused_questions(what: &str, own: &Buffers, draw: &mut Draw) -> Checked {
 
 /// Everything on one sheet.
 fn sheet(what: &str, parents: &[u16], draw: &mut Draw) -> Checked {
+    totals::sheet(what, parents, draw)?;
     let Some(own) = tables(what, parents, draw)? else {
         return Ok(());
     };

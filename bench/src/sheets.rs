@@ -61,6 +61,11 @@ pub fn random(n: usize, draw: &mut Draw) -> Vec<u16> {
     parents
 }
 
+/// A count of wear for each of n parts, any number of 32 bits.
+pub fn counts(n: usize, draw: &mut Draw) -> Vec<u32> {
+    (0..n).map(|_| draw.below(1 << 32) as u32).collect()
+}
+
 /// A list of `count` parts below n.
 pub fn parts(count: usize, n: usize, draw: &mut Draw) -> Vec<u16> {
     (0..count).map(|_| draw.below(n) as u16).collect()

@@ -59,11 +59,7 @@ pub fn peel(parents: &[u16], root: u16, work: [&mut [u16]; 3]) -> bool {
     let [count, order, size] = work.map(|part| &mut part[..n]);
     children(parents, count, size);
     size.fill(1);
-    let mut found = 0;
-    for (v, &children) in count.iter().enumerate() {
-        order[found] = v as u16;
-        found += (children == 0) as usize;
-    }
+    let mut found = leaves(count, order);
     let mut at = 0;
     while at < found {
         let v = order[at] as usize;
@@ -84,7 +80,7 @@ pub fn peel(parents: &[u16], root: u16, work: [&mut [u16]; 3]) -> bool {
 }
 
 /// How many name each node, the root itself too, in `a`. Two buffers take turns, so that counts of one parent wait less for one another.
-fn children(parents: &[u16], a: &mut [u16], b: &mut [u16]) {
+pub fn children(parents: &[u16], a: &mut [u16], b: &mut [u16]) {
     a.fill(0);
     b.fill(0);
     let pairs = parents.chunks_exact(2);
@@ -98,6 +94,17 @@ fn children(parents: &[u16], a: &mut [u16], b: &mut [u16]) {
     for (a, &b) in a.iter_mut().zip(&*b) {
         *a += b;
     }
+}
+
+/// Puts the nodes without children into `order`, without a branch, and gives how many there are.
+#[inline(always)]
+pub fn leaves(count: &[u16], order: &mut [u16]) -> usize {
+    let mut found = 0;
+    for (v, &children) in count.iter().enumerate() {
+        order[found] = v as u16;
+        found += (children == 0) as usize;
+    }
+    found
 }
 
 /// For each node the sizes of its lower siblings; `total` is all zero before.
