@@ -489,6 +489,15 @@ def show_tables(name, parents):
     print(f"  first cell changed too{verdict((8, 0))}")
 
 
+def scattered(turn):
+    """A tree of no order, in which each part names a lower one; then each number is that many greater, modulo 16,384."""
+    parents = [0] * LIMIT
+    for v in range(LIMIT):
+        entry = (40503 * v + 12829) % 65536 % v if v > 0 else 0
+        parents[(v + turn) % LIMIT] = (entry + turn) % LIMIT
+    return parents
+
+
 def changed(parents, **entries):
     """A sheet with some entries changed, each named as v0, v16383 and so on."""
     parents = list(parents)
@@ -528,7 +537,7 @@ def main():
     show_answers([0] * (LIMIT + 1), exact(1))
     show_tables("star of 16384, root 0", star)
     show_tables("chain of 16384, root 0", down)
-    show_tables("tree of 16384 of no order", [0] + [(40503 * v + 12829) % 65536 % v for v in range(1, LIMIT)])
+    show_tables("tree of 16384 of no order", scattered(0))
 
 
 main()

@@ -157,7 +157,7 @@ pub fn tables() {
     shape::chain_down(&mut s);
     print::text(b"chain of 16384, root 0");
     lend_tables(&s);
-    shape::scatter(&mut s);
+    shape::scatter(&mut s, 0);
     print::text(b"tree of 16384 of no order");
     lend_tables(&s);
 }
