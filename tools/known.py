@@ -6,7 +6,8 @@
 It takes each definition as it stands, climbs part by part, scans block by block and shares nothing with crates/. It reads the small sheets
 from crates/known/stdin and makes the large ones. Of the tables of the large ones it says only what follows from the definitions: a sheet's own
 tables are accepted, and a changed cell is stale at its place. An answer is the carrier, by whatever route it is asked: no route's rule is here but
-that of lifts, for its trail. A subtree is what the part carries, kept in the order of the order table (document 02, 2026-01).
+that of lifts, for its trail. A subtree is what the part carries, kept in the order of the order table (document 02, 2026-01). A total is the sum of
+the counts of all parts that the part carries (2026-02); of the large sheets, what a walk has counted between coming to the part and leaving it.
 """
 import os
 import re
@@ -19,6 +20,9 @@ TABLES = 4
 ROOM = [192, 480, 192, 32, 128]
 ROOM_OF_ANSWER = 256
 ROOM_OF_TRAIL = [2, 65]
+ROOM_OF_TOTALS = [128, 32, 32]  # of work, counts and totals
+LARGEST_COUNT = 4294967295
+MIXING = 4294967291
 PRINTED_WHOLE = 32
 
 
@@ -95,6 +99,11 @@ def stale(parents, tables, lent, further=None):
     return None
 
 
+def lowest_unfit(fits):
+    """The lowest buffer that does not fit, from whether each does, or None."""
+    return next((buffer for buffer in sorted(fits) if not fits[buffer]), None)
+
+
 def unfit(kind, question, answer, trail):
     """The lowest of question, answer and trail, buffers 5 to 7, that has not its exact length, by their cells, or None."""
     if kind == "m":
@@ -103,7 +112,12 @@ def unfit(kind, question, answer, trail):
         fits = {5: question == 2, 6: answer == 1, 7: trail == 64}
     else:
         fits = {5: question % 2 == 0, 6: 2 * answer == question}
-    return next((buffer for buffer in sorted(fits) if not fits[buffer]), None)
+    return lowest_unfit(fits)
+
+
+def unfit_of_totals(n, counts, totals):
+    """The same of counts and totals, buffers 9 and 10, each of which has a cell for each of n parts."""
+    return lowest_unfit({9: counts == n, 10: totals == n})
 
 
 def asked(parents, why, question):
@@ -289,6 +303,35 @@ def walked_subtree(order, parents, v):
     return start, order[start:start + len(carried)]
 
 
+def walked_totals(parents, counts):
+    """The total of each part, by a walk down from the root: what has been counted when it leaves a part, less what had been when it came."""
+    into = {v: [] for v in range(len(parents))}
+    coming = []
+    for v, entry in enumerate(parents):
+        (coming if v == entry else into[entry]).append(v)
+    counted = 0
+    before = {}
+    found = [0] * len(parents)
+    while coming:
+        v = coming[-1]
+        if v in before:
+            found[v] = counted - before[v]
+            coming.pop()
+        else:
+            before[v] = counted
+            counted += counts[v]
+            coming += into[v]
+    return found
+
+
+def totals(parents, counts):
+    """The total of each part: the sum of the counts of all parts on whose climb it stands."""
+    parts = range(len(parents))
+    found = [sum(counts[u] for u in parts if v in carriers(parents, u)) for v in parts]
+    assert found == walked_totals(parents, counts)
+    return found
+
+
 # The lines.
 
 def listed(numbers):
@@ -397,6 +440,24 @@ def show_subtrees(parents, why, question):
         show_subtree(part, reason, subtree(parents, part) if reason is None else None)
 
 
+def joined(low, high):
+    """The counts, of their low and their high halves; those high halves that are not given are 0."""
+    return [l + 65536 * h for l, h in zip(low, high + [0] * len(low))]
+
+
+def show_totals(numbers):
+    """A line of kind 'a'."""
+    work, mid, room, halves = numbers[:4]
+    lent, rest = [work, mid, room], numbers[4:]
+    end = mid + halves
+    assert end <= len(rest)
+    assert all(cells <= most for cells, most in zip(lent, ROOM_OF_TOTALS))
+    counts, parents = joined(rest[:mid], rest[mid:end]), rest[end:]
+    why = refusal(parents, only_work(work), unfit_of_totals(len(parents), mid, room))
+    became = listed(totals(parents, counts)) if why is None else "kept"
+    print(f"{entries(parents)} with {listed(lent)}, counts {listed(counts) or 'nothing'}{verdict(why)}, totals {became}")
+
+
 SHOW = {"p": show_pairs, "r": show_trail, "m": show_list}
 
 
@@ -433,6 +494,9 @@ def show_line(kind, numbers):
         cells, *parents = numbers
         assert cells <= ROOM[TABLES]
         print(f"{entries(parents)} with {cells}{verdict(refusal(parents, only_work(cells)))}")
+        return
+    if kind == "a":
+        show_totals(numbers)
         return
     lent, rest = numbers[:TABLES + 1], numbers[TABLES + 1:]
     if any(cells > room for cells, room in zip(lent, ROOM)):
@@ -489,6 +553,20 @@ def show_tables(name, parents):
     print(f"  first cell changed too{verdict((8, 0))}")
 
 
+def show_large_totals(name, parents):
+    """The line of a large sheet that is asked for totals: the buffers are those of 16,384 parts, and each count is the largest."""
+    counts = [LARGEST_COUNT] * LIMIT
+    why = refusal(parents, only_work(4 * LIMIT), unfit_of_totals(len(parents), LIMIT, LIMIT))
+    became = "kept"
+    if why is None:
+        found = walked_totals(parents, counts)
+        mixed = 0
+        for total in found:
+            mixed = (31 * mixed + total) % MIXING
+        became = f"from {found[0]} to {found[-1]}, mixed {mixed}"
+    print(f"{name}, every count {LARGEST_COUNT}{verdict(why)}, totals {became}")
+
+
 def scattered(turn):
     """A tree of no order, in which each part names a lower one; then each number is that many greater, modulo 16,384."""
     parents = [0] * LIMIT
@@ -538,6 +616,11 @@ def main():
     show_tables("star of 16384, root 0", star)
     show_tables("chain of 16384, root 0", down)
     show_tables("tree of 16384 of no order", scattered(0))
+    show_large_totals("star of 16384, root 0", star)
+    show_large_totals("chain of 16384, root 16383", changed(up, v16383=16383))
+    show_large_totals("tree of 16384 of no order, root 5000", scattered(5000))
+    show_large_totals("root 0 and a loop of 16383", changed(up, v0=0, v16383=1))
+    show_large_totals("16385 entries", [0] * (LIMIT + 1))
 
 
 main()

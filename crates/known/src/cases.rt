@@ -1,10 +1,11 @@
 // Sheets that are written down, a line each. Its first letter says what is done with it: of a line "work 12: 5 1 2" the sheet is checked, with
-// the cells of work that are lent before the entries; lend.rt has the kinds 't', 'd', 'g', 'o' and 'c', ask.rt the kinds 'p', 'r', 'm' and 's'; any
-// other line, as one that begins with '#', is a comment. Whatever is no digit only parts the numbers.
+// the cells of work that are lent before the entries; lend.rt has the kinds 't', 'd', 'g', 'o' and 'c', ask.rt the kinds 'p', 'r', 'm' and 's',
+// totals.rt the kind 'a'; any other line, as one that begins with '#', is a comment. Whatever is no digit only parts the numbers.
 
 use crate::lend;
 use crate::print;
 use crate::run;
+use crate::totals;
 ghost use Prim.Native.Nat.{_≤_};
 ghost use lib.ListN.{length};
 ghost use Rattle.io.specs.Counts.{Counts};
@@ -51,6 +52,7 @@ fn run_kind(kind: u8, numbers: &[u16]) {
         b'w' => run_sheet(numbers),
         b't' | b'd' | b'g' | b'o' | b'c' => lend::run(kind, numbers),
         b'p' | b'r' | b'm' | b's' => lend::run(kind, numbers),
+        b'a' => totals::run(numbers),
         _ => {}
     }
 }

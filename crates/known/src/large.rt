@@ -1,4 +1,4 @@
-// Sheets of 16,384 parts and one more, made by loops, the tables of three of them and questions to these.
+// Sheets of 16,384 parts and one more, made by loops, the tables of three of them and questions to these, and the totals of some.
 
 use crate::ask;
 use crate::damage;
@@ -7,6 +7,7 @@ use crate::print;
 use crate::run;
 use crate::shape;
 use crate::subtree;
+use crate::totals;
 use crate::trail;
 ghost use mathlib.Core.Path.{_≡_};
 ghost use lib.ListN.{length};
@@ -19,7 +20,7 @@ fn sheet() -> [u16; 16384]
 }
 
 // The work of 16,384 parts.
-fn work() -> [u16; 65536]
+pub fn work() -> [u16; 65536]
     ensures { λ r. ⌜ 65536 ≡ length r ⌝ }
 {
     [0; 65536]
@@ -290,4 +291,31 @@ fn compare(
 ) {
     print::text(name);
     lend::compare(parents, label, tour, lift, order, work);
+}
+
+// The totals of a star, of a chain whose parts name later ones, and of a tree of no order whose parts name earlier and later ones.
+pub fn counted() {
+    let mut s = sheet();
+    print::text(b"star of 16384, root 0");
+    totals::ask_large(&s);
+    shape::chain_up(&mut s);
+    shape::put(&mut s, 16383, 16383);
+    print::text(b"chain of 16384, root 16383");
+    totals::ask_large(&s);
+    shape::scatter(&mut s, 5000);
+    print::text(b"tree of 16384 of no order, root 5000");
+    totals::ask_large(&s);
+}
+
+// No totals: test 7, and test 2, before 3.
+pub fn not_counted() {
+    let mut s = sheet();
+    shape::chain_up(&mut s);
+    shape::put(&mut s, 0, 0);
+    shape::put(&mut s, 16383, 1);
+    print::text(b"root 0 and a loop of 16383");
+    totals::ask_large(&s);
+    let s = sheet_too_large();
+    print::text(b"16385 entries");
+    totals::ask_large(&s);
 }

@@ -1,6 +1,6 @@
 // The known sheets that are run (document 01, "Known sheets", and more of our own). Standard input has the small ones, a line each; the large
-// ones are made here. Each is checked, or its tables are built or compared with it, or it is asked for carriers or subtrees, and a line says
-// the verdict and what became of work, which held sevens before.
+// ones are made here. Each is checked, or its tables are built or compared with it, or it is asked for carriers, subtrees or totals, and a line
+// says the verdict and what became of work, which held sevens before.
 
 mod ask;
 mod cases;
@@ -10,6 +10,7 @@ mod lend;
 mod print;
 mod shape;
 mod subtree;
+mod totals;
 mod trail;
 
 // Checks one sheet and prints the rest of its line.
@@ -32,4 +33,6 @@ fn main() {
     large::cycles();
     large::size_of_tables();
     large::tables();
+    large::counted();
+    large::not_counted();
 }

@@ -15,10 +15,15 @@ pub fn number(n: u64) {
 
 // The number of a cell, with a space before it if it is not the first.
 fn cell(i: usize, x: u16) {
+    wide_cell(i, x as u64);
+}
+
+// The same of a cell of more bits.
+pub fn wide_cell(i: usize, x: u64) {
     if 0 < i {
         text(b" ");
     }
-    number(x as u64);
+    number(x);
 }
 
 // The numbers of a list, parted by spaces.
