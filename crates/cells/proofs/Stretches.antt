@@ -12,11 +12,14 @@ use Rattle.tree.proofs.Differences.{same-none}
 use Rattle.tree.specs.Sections.{Same}
 use Rattle.cells.specs.Cells.{Filled, Copied, Agree}
 
--- where no bit is gathered, none was before, and the two numbers do not differ in any
+-- where no bit is gathered, none was before, and none is added
+pub or-none : (bits d : ℕ) → bitOr bits d ≡ 0 → (bits ≡ 0) × (d ≡ 0)
+or-none bits d e = (omega (arith, or-add-and bits d, and-le-r bits d), omega (arith, or-add-and bits d, and-le-l bits d))
+
+-- .. so that two numbers do not differ in any
 pub no-bits : (bits x y : ℕ) → bitOr bits (bitXor x y) ≡ 0 → (bits ≡ 0) × (x ≡ y)
 no-bits bits x y e =
-    let d = bitXor x y in
-    let none : (bits ≡ 0) × (d ≡ 0) = (omega (arith, or-add-and bits d, and-le-r bits d), omega (arith, or-add-and bits d, and-le-l bits d)) in
+    let none = or-none bits (bitXor x y) e in
     (none .0, omega (arith, none .1, xor-add-and x y, and-le-l x y, and-le-r x y))
 
 pub filled-none : (l : List ℕ) (i x : ℕ) → Filled l i 0 x l

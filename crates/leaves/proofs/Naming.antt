@@ -28,14 +28,6 @@ entry-part g v h = g .one .inside v h
 
 -- ---- counting who names whom
 
--- no more are counted than there are
-pub count-most : (s : List ℕ) (p k : ℕ) → countBelow (names s p) k ≤ k
-unfolding countBelow
-count-most s p zero = le-of-eq refl
-count-most s p (suc k) =
-    let earlier = count-most s p k in
-    by-equal (parent s k) p (λ e. rw (eq-eqb _ _ e) (omega arith)) (λ e. rw (ne-eqb _ _ e) (omega arith))
-
 -- none at first
 pub named-start : {s w : List ℕ} → ((c : ℕ) → length s ≤ c → c < length s + length s → getD w c 0 ≡ 0) → Named s w 0
 unfolding countBelow

@@ -44,6 +44,23 @@ pub record Taking (s w : List ℕ) (taken found : ℕ) : Type 0 where
   -- before each stand all that name it
   pub first : (i c : ℕ) → i < found → c < length s → parent s c ≡ getD w i 0 → (j : ℕ) × (j < i) × (getD w j 0 ≡ c)
 
+-- k parts more wait to be taken
+pub record Waiting (s w : List ℕ) (at k found : ℕ) : Type 0 where
+  pub wooded : Wooded s w
+  pub taking : Taking s w at found
+  pub wait : at + k ≤ found
+
+-- the entry of the part at a place of the order
+abbrev pub entryAt : List ℕ → List ℕ → ℕ → ℕ
+entryAt s w at = getD s (getD w at 0) 0
+
+-- they are taken, so that r parts are in the order; those that were in it stand where they stood
+pub record Took (s w : List ℕ) (at k found : ℕ) (w′ : List ℕ) (r : ℕ) : Type 0 where
+  pub taking : Taking s w′ (at + k) r
+  pub kept : (i : ℕ) → i < found → getD w′ i 0 ≡ getD w i 0
+  pub grown : found ≤ r
+  pub cells : length w′ ≡ length w
+
 -- the numbers from n − 1 down to 0 in the first n cells
 pub record Falling (n : ℕ) (w : List ℕ) : Type 0 where
   pub cell : (i : ℕ) → i < n → getD w i 0 ≡ n - 1 - i

@@ -5,9 +5,10 @@ mod take;
 
 ghost use mathlib.Core.Path.{_≡_};
 ghost use mathlib.Core.Bool.{true, false};
-ghost use Prim.Native.Nat.{ℕ, _≤_, _<_};
+ghost use Prim.Native.Nat.{ℕ, _-_, _≤_, _<_};
 ghost use lib.ListN.{length, getD};
 ghost use Rattle.tree.specs.Tree.{Tree};
+ghost use Rattle.tree.specs.Tests.{limit};
 ghost use Rattle.tree.specs.BottomUp.{BottomUp};
 ghost use Rattle.leaves.specs.Leaves.{Wooded, Falling};
 
@@ -16,7 +17,7 @@ pub fn bottom_up(parents: &[u16], work: &mut [u16]) -> bool
     requires { ⌜ Wooded (now parents) (now work) ⌝ }
     ensures { λ r. ⌜ (r ≡ true → BottomUp (now (parents .entry)) (now (work .exit))) × (r ≡ false → Tree (now (parents .entry)) → ⊥) ⌝ }
 {
-    if some_later(parents) {
+    if later(parents) != 0 {
         let found = take::leaves(parents, work);
         return found + 1 == parents.len();
     }
@@ -24,26 +25,34 @@ pub fn bottom_up(parents: &[u16], work: &mut [u16]) -> bool
     true
 }
 
-// Whether a part names a later one. It stops at no part, so that several are compared at once.
-fn some_later(parents: &[u16]) -> bool
-    requires { ⌜ length (now parents) ≤ 16384 ⌝ }
-    ensures { λ r. ⌜ (r ≡ false → (v : ℕ) → v < length (now (parents .entry)) → getD (now (parents .entry)) v 0 ≤ v) ⌝ }
+// The bits of all by which an entry is above its part's number: 0 only where no part names a later one. It stops at no part, so that several are compared at once.
+fn later(parents: &[u16]) -> u16
+    requires { ⌜ length (now parents) ≤ limit ⌝ }
+    ensures { λ r. ⌜ (r ≡ 0 → (v : ℕ) → v < length (now (parents .entry)) → getD (now (parents .entry)) v 0 ≤ v) ⌝ }
 {
     let n = parents.len();
-    let mut found = false;
+    let mut bits: u16 = 0;
     let mut v = 0;
     while v < n {
-        if (v as u16) < parents[v] {
-            found = true;
-        }
+        bits = bits | above(parents[v], v as u16);
         v += 1;
     }
-    found
+    bits
+}
+
+// By how much a is above b; 0 where it is not.
+fn above(a: u16, b: u16) -> u16
+    ensures { λ r. ⌜ r ≡ a - b ⌝ }
+{
+    if b < a {
+        return a - b;
+    }
+    0
 }
 
 // The numbers from n − 1 down to 0, in the first n cells.
 fn fall(n: usize, work: &mut [u16])
-    requires { ⌜ (n ≤ 16384) × (n ≤ length (now work)) ⌝ }
+    requires { ⌜ (n ≤ limit) × (n ≤ length (now work)) ⌝ }
     ensures { λ _. ⌜ Falling n (now (work .exit)) ⌝ }
 {
     let mut i = 0;

@@ -111,6 +111,12 @@ count-pos p (suc n) v h e =
     (λ q. let here : p n ≡ true = ap p (sym q) ∙ e in rw here (omega arith))
     (λ q. let ih : 0 < countBelow p n = count-pos p n v (omega arith) e in omega arith)
 
+-- no more are counted than there are
+pub count-most : (p : ℕ → Bool) (n : ℕ) → countBelow p n ≤ n
+unfolding countBelow
+count-most p zero = le-refl 0
+count-most p (suc n) = let earlier = count-most p n in by-test (p n) (λ e. rw e (omega arith)) (λ e. rw e (omega arith))
+
 -- tests that agree below n count the same
 pub count-same : (p q : ℕ → Bool) (n : ℕ) → ((j : ℕ) → j < n → q j ≡ p j) → countBelow q n ≡ countBelow p n
 unfolding countBelow

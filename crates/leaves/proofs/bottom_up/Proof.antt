@@ -14,8 +14,8 @@ use Rattle.leaves.proofs.Ending.{taken-order, taken-all, falling-order}
 use Rattle.leaves.proofs.bottom_up.Statement.{statement}
 use Rattle.leaves.proofs.bottom_up.Tie as tie
 
-some-later-requires : tie.Need-some-later-requires
-some-later-requires c κs = c .before .before .pre .small
+later-requires : tie.Need-later-requires
+later-requires c κs = c .before .before .pre .small
 
 leaves-requires : tie.Need-leaves-requires
 leaves-requires c κs = c .before .before .before .before .before .pre
@@ -50,14 +50,14 @@ returns-2 : tie.Need-returns-2
 returns-2 c =
     let fall = c .before .before .fall in
     let g = wooded-same (c .before .before .before .before .before .before .before .before .pre) (fall .kept .1 .0) in
-    let none = c .before .before .before .before .before .some-later .ensures (c .before .before .before .before .if1 .left) in
+    let none = c .before .before .before .before .before .later .ensures (c .before .before .before .before .if1 .left) in
     (λ _. falling-order g (fall .ensures) none, λ e. absurd (true≢false e))
 
 pub bottom-up-spec : {M : Type 1} → statement M
 bottom-up-spec =
     tie.close
     (tie.spec
-    some-later-requires
+    later-requires
     leaves-requires
     add-result
     same-length

@@ -6,8 +6,9 @@ use Prim.Native.Nat.{ℕ, _+_, _-_, _≤_, _<_}
 use mathlib.Core.Path.{_≡_, refl, _∙_}
 use mathlib.Core.List.{List}
 use lib.ListN.{length, getD, length-set}
-use Rattle.leaves.specs.Leaves.{Wooded, Named}
-use Rattle.leaves.proofs.Naming.{wooded-same, entry-part, count-most, named-step}
+use Rattle.tree.proofs.Scans.{count-most}
+use Rattle.leaves.specs.Leaves.{Wooded, names, Named}
+use Rattle.leaves.proofs.Naming.{wooded-same, entry-part, named-step}
 use Rattle.leaves.proofs.take.count.Statement.{statement}
 use Rattle.leaves.proofs.take.count.Tie as tie
 
@@ -60,7 +61,7 @@ add-work : tie.Need-add-work Inv-loop μ-loop
 add-work c =
     let d = c .before in
     let l = d .before .before .loop in
-    let most = count-most (sheet d) (entry d) (l .v) in
+    let most = count-most (names (sheet d) (entry d)) (l .v) in
     let counted = l .inv .2 .counted (entry d) (here d) in
     let g = wooded d in
     omega arith

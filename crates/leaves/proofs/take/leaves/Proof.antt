@@ -21,6 +21,10 @@ counted c = wooded-same (filled (c .before .before .before .before)) (c .count .
 seeded : (c : tie.After-unnamed) → Wooded (start (c .before .before .before .before .before .before .before .before) .args .parents .now) (c .unnamed .last .1 .0)
 seeded c = wooded-same (counted (c .before .before .before .before)) (c .unnamed .kept .1 .0)
 
+taken : (c : tie.After-take-eights)
+    → Wooded (start (c .before .before .before .before .before .before .before .before .before .before .before .before) .args .parents .now) (c .take-eights .last .1 .1 .0)
+taken c = wooded-same (seeded (c .before .before .before .before)) (c .take-eights .kept .1 .1 .0)
+
 fill-requires : tie.Need-fill-requires
 fill-requires c κs = let g = c .before .before .before .pre in omega arith
 
@@ -30,14 +34,22 @@ count-requires c κs = let d = c .before .before .before in (filled d, named-sta
 unnamed-requires : tie.Need-unnamed-requires
 unnamed-requires c κs = let d = c .before .before .before in (counted d, d .count .ensures)
 
-take-requires : tie.Need-take-requires
-take-requires c κs = let d = c .before .before .before in (seeded d, d .unnamed .ensures)
+take-eights-requires : tie.Need-take-eights-requires
+take-eights-requires c κs = let d = c .before .before .before in (seeded d, d .unnamed .ensures)
+
+mul-take-rest : tie.Need-mul-take-rest
+mul-take-rest c = search needs
+
+take-rest-requires : tie.Need-take-rest-requires
+take-rest-requires c κs = let d = c .before .before .before in (taken d, d .take-eights .ensures)
 
 same-length : tie.Need-same-length
 same-length c = search needs
 
 returns : tie.Need-returns
-returns c = c .before .before .take .ensures
+returns c = c .before .before .take-rest .ensures
 
 pub leaves-spec : {M : Type 1} → statement M
-leaves-spec = tie.close (tie.spec fill-requires count-requires unnamed-requires take-requires same-length returns)
+leaves-spec =
+    tie.close
+    (tie.spec fill-requires count-requires unnamed-requires take-eights-requires mul-take-rest take-rest-requires same-length returns)
