@@ -1,25 +1,44 @@
--- Test 7 and trees: a sheet with one root has no lost part exactly if it is one rooted tree. With it, what a refusal of tests 4 to 7 gives.
+-- A sheet with one root: it passes tests 4 to 6, and has no lost part exactly if it is one rooted tree. With it, what a refusal of tests 4 to 7 gives.
 -- Assumes nothing.
-use Prim.Native.Nat.{ℕ, _≤_, _<_}
-use native.Mathlib.Nat.{le-refl, lt-of-lt-of-le}
+use Prim.Native.Nat.{ℕ, suc, _≤_, _<_, zero-le}
+use native.Mathlib.Nat.{le-refl, le-of-eq, lt-of-lt-of-le}
 use native.Mathlib.Omega.{arith}
 use mathlib.Core.Path.{_≡_, sym, ap, _∙_}
 use mathlib.Core.Bool.{Bool}
 use mathlib.Core.List.{List}
-use borrow.Author.Tests.{not-false}
+use borrow.Author.Tests.{not-false, lt-leb}
 use lib.ListN.{length}
 use Rattle.tree.specs.declared.Refusal.{Refusal}
 use Rattle.tree.specs.declared.Outcome.the-variants.{Refused}
-use Rattle.tree.specs.Tree.{climb, isRoot, Tree}
+use Rattle.tree.specs.Tree.{parent, climb, isRoot, nextRoot, rootOf, Tree}
 use Rattle.tree.specs.Verdict.{refused, numberOf, placeOf}
-use Rattle.tree.specs.Tests.{verdict, treeTests, lost, firstLost}
+use Rattle.tree.specs.Tests.{verdict, treeTests, outside, lost, firstOutside, firstLost}
 use Rattle.tree.specs.BottomUp.{OneRoot}
-use Rattle.tree.proofs.Scans.{least-before}
+use Rattle.tree.proofs.Scans.{by-order, least-before, least-none}
 use Rattle.tree.proofs.Climbs.{climb-inside}
-use Rattle.tree.proofs.Roots.{is-root, root-is, meets-by-n}
+use Rattle.tree.proofs.Roots.{is-root, root-is, root-of, second-none, meets-by-n}
 use Rattle.tree.proofs.Places.{cycle-place}
 use Rattle.tree.proofs.Verdicts.{not-both}
 use Rattle.rooted.specs.Tested.{TreeTested}
+
+-- a sheet with one root passes tests 4 to 6
+pub record Passes (s : List ℕ) (r : ℕ) : Type 0 where
+  pub is : r ≡ rootOf s
+  pub entries : length s ≤ firstOutside s
+  pub below : rootOf s < length s
+  pub none : length s ≤ nextRoot s (suc (rootOf s))
+
+pub one-passes : {s : List ℕ} {r : ℕ} → OneRoot s r → Passes s r
+one-passes {s} {r} one =
+    let lowest = root-of s in
+    let below : rootOf s < length s = by-order (rootOf s) r (λ h. omega (arith, one .part)) (λ h. absurd (lowest .before r zero-le h (one .itself))) in
+    let is : r ≡ rootOf s = sym (one .only (rootOf s) below (lowest .here below)) in
+    record {
+      is = is;
+      entries = le-of-eq (sym (least-none (outside s) (length s) (λ v h. lt-leb (length s) (parent s v) (one .inside v h))));
+      below = below;
+      none = second-none s below (λ v h e. one .only v h e ∙ is);
+    }
 
 -- on a tree none is lost
 pub none-lost : {s : List ℕ} → Tree s → length s ≡ firstLost s

@@ -24,8 +24,20 @@ pub fn root(parents: &[u16]) -> usize
 }
 
 // Tests 4 to 7, the parts counted from `shift` on. The loop test keeps its links in `work`; where the sheet is accepted and an order is asked for, the first
-// n − 1 cells are a bottom-up order afterwards.
+// n − 1 cells are a bottom-up order afterwards. Most sheets have one root: that is told by one pass, and only where it is not so, the tests are made one by one.
 pub fn test_tree(parents: &[u16], shift: usize, ordered: bool, work: &mut [u16]) -> Outcome
+    requires { ⌜ Roomy (now parents) (now work) × (shift ≤ limit) ⌝ }
+    ensures { λ r. ⌜ TreeTested (now (parents .entry)) shift ordered r (now (work .exit)) ⌝ }
+{
+    let root = scan::lone_root(parents);
+    if root < parents.len() {
+        return test_loops(parents, shift, root, ordered, work);
+    }
+    test_singly(parents, shift, ordered, work)
+}
+
+// The same, test by test.
+fn test_singly(parents: &[u16], shift: usize, ordered: bool, work: &mut [u16]) -> Outcome
     requires { ⌜ Roomy (now parents) (now work) × (shift ≤ limit) ⌝ }
     ensures { λ r. ⌜ TreeTested (now (parents .entry)) shift ordered r (now (work .exit)) ⌝ }
 {
@@ -42,16 +54,30 @@ pub fn test_tree(parents: &[u16], shift: usize, ordered: bool, work: &mut [u16])
     if second < n {
         return Outcome::Refused(Refusal::SecondRoot(shift + second));
     }
+    test_loops(parents, shift, root, ordered, work)
+}
+
+// Test 7 of a sheet that has passed tests 4 to 6.
+fn test_loops(
+    parents: &[u16],
+    shift: usize,
+    root: usize,
+    ordered: bool,
+    work: &mut [u16],
+) -> Outcome
+    requires { ⌜ Rooted (now parents) (now work) root × (shift ≤ limit) ⌝ }
+    ensures { λ r. ⌜ TreeTested (now (parents .entry)) shift ordered r (now (work .exit)) ⌝ }
+{
     let v = first_lost(parents, root, ordered, work);
-    if v < n {
+    if v < parents.len() {
         return Outcome::Refused(Refusal::Cycle(shift + v));
     }
     Outcome::Accepted
 }
 
-// Test 7: the lowest part whose climb never meets the root; the number of parts where there is none.
+// The lowest part whose climb never meets the root; the number of parts where there is none.
 fn first_lost(parents: &[u16], root: usize, ordered: bool, work: &mut [u16]) -> usize
-    requires { ⌜ Rooted (now parents) (now work) root × (root ≡ rootOf (now parents)) ⌝ }
+    requires { ⌜ Rooted (now parents) (now work) root ⌝ }
     ensures { λ r. ⌜ (r ≡ firstLost (now (parents .entry)))
         × (ordered ≡ true → r ≡ length (now (parents .entry)) → BottomUp (now (parents .entry)) (now (work .exit))) ⌝ }
 {
@@ -63,7 +89,7 @@ fn first_lost(parents: &[u16], root: usize, ordered: bool, work: &mut [u16]) -> 
 
 // The same by taking leaves off, which leaves an order: where some cannot be taken there is such a part, and it is looked for.
 fn lost_by_leaves(parents: &[u16], root: usize, work: &mut [u16]) -> usize
-    requires { ⌜ Rooted (now parents) (now work) root × (root ≡ rootOf (now parents)) ⌝ }
+    requires { ⌜ Rooted (now parents) (now work) root ⌝ }
     ensures { λ r. ⌜ (r ≡ firstLost (now (parents .entry)))
         × (r ≡ length (now (parents .entry)) → BottomUp (now (parents .entry)) (now (work .exit))) ⌝ }
 {

@@ -7,14 +7,14 @@ use borrow.Author.Needs.{needs}
 use Rattle.tree.specs.BottomUp.{OneRoot, BottomUp}
 use Rattle.tree.proofs.BottomUps.{bottom-up-tree}
 use Rattle.leaves.specs.Leaves.{Wooded}
-use Rattle.rooted.proofs.Losing.{none-lost, lost-none}
+use Rattle.rooted.proofs.Losing.{one-passes, none-lost, lost-none}
 use Rattle.rooted.proofs.lost_by_leaves.Statement.{statement}
 use Rattle.rooted.proofs.lost_by_leaves.Tie as tie
 
 bottom-up-requires : tie.Need-bottom-up-requires
 bottom-up-requires c κs =
-    let (rooted, is) = c .before .before .before .pre in
-    record { one = subst (OneRoot _) is (rooted .one); small = rooted .fits .small; room = rooted .fits .room }
+    let rooted = c .before .before .before .pre in
+    record { one = subst (OneRoot _) (one-passes (rooted .one) .is) (rooted .one); small = rooted .fits .small; room = rooted .fits .room }
 
 same-length : tie.Need-same-length
 same-length c = search needs
@@ -22,12 +22,12 @@ same-length c = search needs
 returns : tie.Need-returns
 returns c =
     let order = c .before .before .before .bottom-up .ensures .0 (c .if1 .taken) in
-    let rooted = c .before .before .before .before .before .before .before .pre .0 in
+    let rooted = c .before .before .before .before .before .before .before .pre in
     (none-lost (bottom-up-tree (rooted .one) order), λ _. order)
 
 first-cycle-requires : tie.Need-first-cycle-requires
 first-cycle-requires c κs =
-    let rooted = c .before .before .before .before .before .before .before .before .pre .0 in
+    let rooted = c .before .before .before .before .before .before .before .before .pre in
     let same = c .before .before .before .before .bottom-up .kept .1 .0 in
     let room = rooted .fits .room in
     record { one = rooted .one; fits = record { small = rooted .fits .small; room = omega arith } }
@@ -39,7 +39,7 @@ returns-2 : tie.Need-returns-2
 returns-2 c =
     let is = c .before .before .first-cycle .ensures in
     let left = c .before .before .before .before .before .before .before .bottom-up .ensures .1 (c .before .before .before .before .if1 .left) in
-    let rooted = c .before .before .before .before .before .before .before .before .before .before .before .pre .0 in
+    let rooted = c .before .before .before .before .before .before .before .before .before .before .before .pre in
     (is, λ all. absurd (left (lost-none (rooted .one) (le-of-eq (sym all ∙ is)))))
 
 pub lost-by-leaves-spec : {M : Type 1} → statement M
