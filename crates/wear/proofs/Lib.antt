@@ -5,3 +5,5 @@ pub mod Weights
 pub mod Climbing
 -- what the call gives
 pub mod Giving
+-- what is shown
+pub mod Claims
