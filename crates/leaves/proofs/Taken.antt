@@ -15,8 +15,7 @@ use Rattle.tree.specs.Scan.{countBelow, least}
 use Rattle.tree.specs.Tree.{parent, rootOf}
 use Rattle.tree.proofs.Scans.{by-equal, by-order, least-here, least-before, least-le, count-same, count-constant}
 use Rattle.tree.proofs.Pigeonhole.{Apart, count-apart}
-use Rattle.leaves.specs.Leaves.{Wooded, names, leftAt, Taking, Waiting, entryAt, Took}
-use Rattle.leaves.proofs.Naming.{wooded-same}
+use Rattle.leaves.specs.Leaves.{Wooded, names, leftAt, Taking, Took}
 
 -- ---- what is among the first cells
 
@@ -111,7 +110,7 @@ module _ {s w : List ℕ} {at found : ℕ} (left : ℕ) (g : Wooded s w) (l : Ta
       let f = facts in
       getD-set-other (set w (n + p) left) found i p 0 (λ q. absurd (omega arith)) ∙ getD-set-other w (n + p) i left 0 (λ q. absurd (omega arith))
 
-  new : getD w′ found 0 ≡ p
+  pub new : getD w′ found 0 ≡ p
   new =
       let f = facts in
       let room = g .room in
@@ -232,62 +231,3 @@ module _ {s w : List ℕ} {at found : ℕ} (left : ℕ) (g : Wooded s w) (l : Ta
     grown = omega arith;
     cells = length-set (set w (n + p) left) found p ∙ length-set w (n + p) left;
   }
-
--- ---- a part that waits, by the cells
-
-module _ {s w : List ℕ} {at found p : ℕ} (g : Waiting s w at 1 found) (is : p ≡ entryAt s w at) where
-  waits : at < found
-  waits = let wait = g .wait in omega arith
-
-  -- its entry is a part, one is left that names it, and there is room for it
-  pub waiting-entry : (p < length s) × (0 < getD w (length s + p) 0) × (found < length s)
-  unfolding parent
-  waiting-entry =
-      let f = next (g .wooded) (g .taking) waits in
-      (rw is (f .above), rw is (f .some), f .room)
-
-  -- it is taken
-  pub took-entry : {left more : ℕ} → left ≡ getD w (length s + p) 0 - 1 → more ≡ cond (eqb left 0) 1 0
-      → Took s w at 1 found (set (set w (length s + p) left) found p) (found + more)
-  unfolding parent
-  took-entry {left} {more} less one-if =
-      subst (λ (q : ℕ). Took s w at 1 found (set (set w (length s + q) left) found q) (found + more)) (sym is)
-      (took-one left (g .wooded) (g .taking) waits (less ∙ ap (λ (q : ℕ). getD w (length s + q) 0 - 1) is) one-if)
-
--- ---- several, one behind another
-
--- those that wait are parts, in cells of work, and few
-pub waiting-part : {s w : List ℕ} {at k found : ℕ} → Waiting s w at k found → (i : ℕ) → i < at + k
-    → (i < length w) × (getD w i 0 < length s) × (found < length s) × (length s ≤ 16384)
-waiting-part g i h =
-    let wait = g .wait in
-    let few = found-below (g .taking) (g .wooded) in
-    let room = g .wooded .room in
-    (omega arith, g .taking .part i (omega arith), few, g .wooded .small)
-
--- the first of those that wait, and the others
-pub waiting-first : {s w : List ℕ} {at k found : ℕ} (j : ℕ) → j ≤ k → Waiting s w at k found → Waiting s w at j found
-waiting-first j h g = let wait = g .wait in record { wooded = g .wooded; taking = g .taking; wait = omega arith }
-
-pub waiting-later : {s w w′ : List ℕ} {at j k found r : ℕ} → Waiting s w at (j + k) found → Took s w at j found w′ r → Waiting s w′ (at + j) k r
-waiting-later g t =
-    let wait = g .wait in
-    let grown = t .grown in
-    record { wooded = wooded-same (g .wooded) (t .cells); taking = t .taking; wait = omega arith }
-
--- an entry is read the same after others were taken
-pub entry-kept : {s w w′ : List ℕ} {at j found r p : ℕ} (i : ℕ) → Took s w at j found w′ r → i < found → p ≡ entryAt s w i → p ≡ entryAt s w′ i
-entry-kept {s} i t h e = e ∙ ap (λ (v : ℕ). getD s v 0) (sym (t .kept i h))
-
--- taken one after the other, they are taken
-pub took-both : {s w w′ w″ : List ℕ} {at j k found r q : ℕ} → Took s w at j found w′ r → Took s w′ (at + j) k r w″ q → Took s w at (j + k) found w″ q
-took-both {s} {w″ = w″} {at} {j} {k} {q = q} a b =
-    let first = a .grown in
-    let later = b .grown in
-    let e : at + j + k ≡ at + (j + k) = omega arith in
-    record {
-      taking = subst (λ (x : ℕ). Taking s w″ x q) e (b .taking);
-      kept = λ i h. b .kept i (omega arith) ∙ a .kept i h;
-      grown = omega arith;
-      cells = b .cells ∙ a .cells;
-    }

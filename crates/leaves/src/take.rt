@@ -3,7 +3,7 @@
 ghost use mathlib.Core.Path.{_≡_};
 ghost use mathlib.Core.Bool.{cond};
 ghost use Prim.Native.Nat.{_+_, _*_, _/_, _≤_, _<_};
-ghost use lib.Dec.{eqb};
+ghost use lib.Dec.{eqb, ltb};
 ghost use lib.ListN.{length, getD};
 ghost use Rattle.leaves.specs.Leaves.{Wooded, Named, Taking, Waiting, entryAt, Took};
 
@@ -64,19 +64,32 @@ fn take_eights(parents: &[u16], leaves: usize, work: &mut [u16]) -> usize
     found
 }
 
-// Takes the others one by one, from `at` on.
+// Takes the others one by one, from `first` on. The part after the next is read before the next is taken, for the same reason; where none waits there yet, the
+// part that can come to wait there is the entry of the one that is taken.
 fn take_rest(parents: &[u16], first: usize, waiting: usize, work: &mut [u16]) -> usize
     requires { ⌜ Wooded (now parents) (now work) × Taking (now parents) (now work) first waiting ⌝ }
     ensures { λ r. ⌜ Taking (now (parents .entry)) (now (work .exit)) r r ⌝ }
 {
     let mut found = waiting;
     let mut at = first;
+    let mut v = work[at];
     while at < found {
-        let p = entry(parents, at, work);
+        let p = parents[v as usize];
+        v = next(at + 1, found, work[at + 1], p);
         found = one(parents, at, p, found, work);
         at += 1;
     }
     found
+}
+
+// What waits at a place, where so many are in the order: what was read there, or else p.
+fn next(place: usize, found: usize, read: u16, p: u16) -> u16
+    ensures { λ r. ⌜ r ≡ cond (ltb place found) read p ⌝ }
+{
+    if place < found {
+        return read;
+    }
+    p
 }
 
 // Takes eight parts. Their entries are all read before anything is stored, so that no read has to wait for a store that might be to the same cell.
@@ -129,7 +142,7 @@ fn two(parents: &[u16], at: usize, p0: u16, p1: u16, found: usize, work: &mut [u
 // Takes a part, whose entry is given: one less is left that names that, and it is put in behind the others when none is. How many are in the order then.
 fn one(parents: &[u16], at: usize, p: u16, found: usize, work: &mut [u16]) -> usize
     requires { ⌜ Waiting (now parents) (now work) at 1 found × (p ≡ entryAt (now parents) (now work) at) ⌝ }
-    ensures { λ r. ⌜ Took (now (parents .entry)) (now (work .entry)) at 1 found (now (work .exit)) r ⌝ }
+    ensures { λ r. ⌜ Took (now (parents .entry)) (now (work .entry)) at 1 found (now (work .exit)) r × (getD (now (work .exit)) found 0 ≡ p) ⌝ }
 {
     let n = parents.len();
     let left = work[n + p as usize] - 1;

@@ -5,7 +5,7 @@ use Prim.Native.Nat.{_+_, _-_, _≤_, _<_}
 use mathlib.Core.Path.{_≡_, refl}
 use borrow.Author.Needs.{needs}
 use lib.ListN.{length, getD, set, length-set}
-use Rattle.leaves.proofs.Taken.{waiting-entry, took-entry}
+use Rattle.leaves.proofs.Waits.{waiting-entry, took-entry}
 use Rattle.leaves.proofs.take.one.Statement.{statement}
 use Rattle.leaves.proofs.take.one.Tie as tie
 

@@ -7,7 +7,8 @@ use borrow.Author.Needs.{needs}
 use lib.ListN.{length, getD}
 use Rattle.leaves.specs.Leaves.{Wooded, Taking, Waiting}
 use Rattle.leaves.proofs.Naming.{wooded-same}
-use Rattle.leaves.proofs.Taken.{found-below, waiting-part}
+use Rattle.leaves.proofs.Taken.{found-below}
+use Rattle.leaves.proofs.Waits.{waiting-part}
 use Rattle.leaves.proofs.take.take_eights.Statement.{statement}
 use Rattle.leaves.proofs.take.take_eights.Tie as tie
 

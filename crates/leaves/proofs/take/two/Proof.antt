@@ -2,7 +2,7 @@
 -- Assumes nothing.
 use native.Mathlib.Omega.{arith}
 use borrow.Author.Needs.{needs}
-use Rattle.leaves.proofs.Taken.{waiting-first, waiting-later, waiting-part, entry-kept, took-both}
+use Rattle.leaves.proofs.Waits.{waiting-first, waiting-later, waiting-part, entry-kept, took-both}
 use Rattle.leaves.proofs.take.two.Statement.{statement}
 use Rattle.leaves.proofs.take.two.Tie as tie
 
@@ -20,14 +20,14 @@ one-requires-2 : tie.Need-one-requires-2
 one-requires-2 c κs =
     let s = c .before .before .before .before .before .before .before in
     let wait = s .pre .0 .wait in
-    let first = c .before .before .before .one .ensures in
+    let first = c .before .before .before .one .ensures .0 in
     (waiting-later (s .pre .0) first, entry-kept _ first (omega arith) (s .pre .2))
 
 same-length : tie.Need-same-length
 same-length c = search needs
 
 returns : tie.Need-returns
-returns c = took-both (c .before .before .before .before .before .before .one .ensures) (c .before .before .one2 .ensures)
+returns c = took-both (c .before .before .before .before .before .before .one .ensures .0) (c .before .before .one2 .ensures .0)
 
 pub two-spec : {M : Type 1} → statement M
 two-spec = tie.close (tie.spec one-requires add-one one-requires-2 same-length returns)
