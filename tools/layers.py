@@ -12,8 +12,8 @@ import re
 import sys
 
 LAYERS = [
-    ["bits", "tree", "cells", "preorder", "labels", "rows", "rooted", "tables"],
-    ["rules", "lifting", "routes", "subtrees"],
+    ["bits", "tree", "cells", "preorder", "labels", "rows", "leaves", "rooted", "tables"],
+    ["rules", "lifting", "routes", "subtrees", "wear"],
     ["text", "lines", "console", "report", "lca"],
 ]
 COMMON = {"bits", "tree"}
