@@ -1,23 +1,23 @@
 -- What the order is when no leaf is left: on one rooted tree, and on no other sheet with one root, it has all parts but the root. With it, falling numbers
 -- where no part names a later one.
 -- Assumes nothing.
-use Prim.Native.Nat.{ℕ, zero, suc, _+_, _-_, _*_, _≤_, _<_}
+use Prim.Native.Nat.{ℕ, zero, suc, _+_, _-_, _≤_, _<_}
 use native.Mathlib.Omega.{arith}
 use mathlib.Core.Path.{_≡_, refl, sym, ap, _∙_}
 use mathlib.Core.Logic.{_≢_}
-use mathlib.Core.Bool.{Bool, true, false, not}
+use mathlib.Core.Bool.{Bool, true, not}
 use mathlib.Core.List.{List}
 use borrow.Author.Tests.{eq-eqb, ne-eqb, eqb-true, eqb-false, not-true}
 use lib.Dec.{eqb}
 use lib.ListN.{length, getD}
 use Rattle.tree.specs.Scan.{countBelow}
 use Rattle.tree.specs.Tree.{parent, level, rootOf, Tree}
-use Rattle.tree.specs.BottomUp.{OneRoot, BottomUp}
-use Rattle.tree.proofs.Scans.{by-equal, count-one}
+use Rattle.tree.specs.BottomUp.{BottomUp}
+use Rattle.tree.proofs.Scans.{count-one}
 use Rattle.tree.proofs.Trees.{level-below, level-parent}
 use Rattle.tree.proofs.Pigeonhole.{count-apart, count-cover}
-use Rattle.tree.proofs.BottomUps.{Listing, listing-order}
-use Rattle.leaves.specs.Leaves.{Wooded, names, leftAt, Taking, Falling}
+use Rattle.tree.proofs.BottomUps.{listing-order}
+use Rattle.leaves.specs.Leaves.{Wooded, names, Taking, Falling}
 use Rattle.leaves.proofs.Taken.{by-listed, count-all, order-apart, none-itself, found-below}
 
 -- ---- leaves taken off

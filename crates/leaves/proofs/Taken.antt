@@ -1,11 +1,11 @@
 -- A part is taken off: it is one less that names its entry, which is put into the order when none is left.
 -- Assumes nothing.
-use Prim.Native.Nat.{ℕ, zero, suc, _+_, _-_, _*_, _≤_, _<_}
+use Prim.Native.Nat.{ℕ, suc, _+_, _-_, _<_}
 use native.Mathlib.Nat.{mul-one}
 use native.Mathlib.Omega.{arith}
-use mathlib.Core.Path.{_≡_, refl, sym, ap, _∙_, subst}
+use mathlib.Core.Path.{_≡_, refl, sym, ap, _∙_}
 use mathlib.Core.Logic.{_≢_}
-use mathlib.Core.Bool.{Bool, true, false, cond}
+use mathlib.Core.Bool.{Bool, true, cond}
 use mathlib.Core.List.{List}
 use borrow.Author.Tests.{eq-eqb, ne-eqb, eqb-true, eqb-false}
 use lib.Dec.{eqb}
@@ -13,7 +13,7 @@ use lib.ListN.{length, getD, set, length-set}
 use lib.Seq.{getD-set-same, getD-set-other}
 use Rattle.tree.specs.Scan.{countBelow, least}
 use Rattle.tree.specs.Tree.{parent, rootOf}
-use Rattle.tree.proofs.Scans.{by-equal, by-order, least-here, least-before, least-le, count-same, count-constant}
+use Rattle.tree.proofs.Scans.{by-equal, by-order, least-here, least-before, count-same, count-constant}
 use Rattle.tree.proofs.Pigeonhole.{Apart, count-apart}
 use Rattle.leaves.specs.Leaves.{Wooded, names, leftAt, Taking, Took}
 

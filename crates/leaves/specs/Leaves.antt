@@ -1,7 +1,7 @@
 -- Leaves that are taken off a sheet: what work holds meanwhile. Its first n cells are the order so far, and the second n say of each part how many name it that
 -- are not yet taken.
 -- Assumes nothing.
-use Prim.Native.Nat.{ℕ, suc, _+_, _-_, _*_, _≤_, _<_}
+use Prim.Native.Nat.{ℕ, _+_, _-_, _*_, _≤_, _<_}
 use mathlib.Core.Path.{_≡_}
 use mathlib.Core.Logic.{_≢_}
 use mathlib.Core.Bool.{Bool}

@@ -50,7 +50,7 @@ fn unnamed(parents: &[u16], work: &mut [u16]) -> usize
     found
 }
 
-// Takes the parts that are in the order, eight at a time while so many wait; those that are left wait at the end, fewer than eight. All that are taken by then.
+// Takes the parts that are in the order, eight at a time while so many wait. How many are in the order then: all but the last of them, fewer than eight, are taken.
 fn take_eights(parents: &[u16], leaves: usize, work: &mut [u16]) -> usize
     requires { ⌜ Wooded (now parents) (now work) × Taking (now parents) (now work) 0 leaves ⌝ }
     ensures { λ r. ⌜ Taking (now (parents .entry)) (now (work .exit)) (r / 8 * 8) r ⌝ }
@@ -64,8 +64,8 @@ fn take_eights(parents: &[u16], leaves: usize, work: &mut [u16]) -> usize
     found
 }
 
-// Takes the others one by one, from `first` on. The part after the next is read before the next is taken, for the same reason; where none waits there yet, the
-// part that can come to wait there is the entry of the one that is taken.
+// Takes the others one by one, from `first` on. Before a part is taken the one behind it is read, for the same reason as in `eight`; where none waits there yet,
+// the entry of the part that is taken is the one that can come to.
 fn take_rest(parents: &[u16], first: usize, waiting: usize, work: &mut [u16]) -> usize
     requires { ⌜ Wooded (now parents) (now work) × Taking (now parents) (now work) first waiting ⌝ }
     ensures { λ r. ⌜ Taking (now (parents .entry)) (now (work .exit)) r r ⌝ }

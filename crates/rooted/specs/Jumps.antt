@@ -4,7 +4,7 @@ use Prim.Native.Nat.{ℕ, _*_, _≤_, _<_}
 use mathlib.Core.Path.{_≡_}
 use mathlib.Core.List.{List}
 use lib.ListN.{length, getD, set}
-use Rattle.tree.specs.Tree.{parent, climb}
+use Rattle.tree.specs.Tree.{climb}
 use Rattle.tree.specs.Tests.{limit}
 use Rattle.tree.specs.BottomUp.{OneRoot}
 

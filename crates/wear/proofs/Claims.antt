@@ -1,6 +1,6 @@
 -- What is shown of the call for totals, in document 02's words, from its contract alone; and a worked case, by computation.
 -- Assumes nothing.
-use Prim.Native.Nat.{ℕ, _*_, _≤_, _<_}
+use Prim.Native.Nat.{ℕ, _≤_, _<_}
 use native.Mathlib.Omega.{arith}
 use mathlib.Core.Path.{_≡_, refl, sym, ap, _∙_}
 use mathlib.Core.Logic.{_↔_}
@@ -18,7 +18,7 @@ use Rattle.tree.proofs.Rows.{cell-tabulate}
 use Rattle.tree.proofs.Verdicts.{accepted-case}
 use Rattle.tree.proofs.Stages.{stage-no, stage-yes}
 use Rattle.tree.proofs.Claims.{accepted-exactly}
-use Rattle.wear.specs.Sums.{sumWhere, sumOver, sumOf}
+use Rattle.wear.specs.Sums.{sumWhere, sumOf}
 use Rattle.wear.specs.Totals.{countAt, countLimit, total, totalsOf, totalsUnfit, totalsVerdict, TotalsGive}
 use Rattle.wear.proofs.Weights.{total-most}
 

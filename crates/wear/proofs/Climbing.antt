@@ -4,14 +4,14 @@ use Prim.Native.Nat.{ℕ, suc, _+_, _*_, _≤_, _<_}
 use native.Mathlib.Omega.{arith}
 use mathlib.Core.Path.{_≡_, refl, sym, ap, _∙_}
 use mathlib.Core.Logic.{_≢_}
-use mathlib.Core.Bool.{Bool, true, false, _&&_, and-true, and-false, and-eq-true-iff}
+use mathlib.Core.Bool.{Bool, true, _&&_, and-false, and-eq-true-iff}
 use mathlib.Core.List.{List}
 use borrow.Author.Tests.{lt-ltb, le-ltb}
 use lib.Dec.{ltb}
 use lib.ListN.{length, getD, set, length-set}
 use lib.Seq.{ext-getD}
 use Rattle.tree.specs.Scan.{position}
-use Rattle.tree.specs.Tree.{parent, Tree}
+use Rattle.tree.specs.Tree.{parent}
 use Rattle.tree.specs.Nodes.{Small}
 use Rattle.tree.specs.Preorder.{isChild}
 use Rattle.tree.specs.BottomUp.{BottomUp}

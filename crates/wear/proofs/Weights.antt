@@ -5,7 +5,7 @@ use native.Mathlib.Omega.{arith}
 use mathlib.Core.Path.{_≡_, refl, sym, ap, _∙_}
 use mathlib.Core.Bool.{true}
 use mathlib.Core.List.{List, []}
-use lib.ListN.{length, getD}
+use lib.ListN.{length}
 use Rattle.tree.specs.Tree.{Tree, isAncestor, level}
 use Rattle.tree.specs.Preorder.{isChild, eachChild, childSum, preorderIn}
 use Rattle.tree.proofs.Scans.{by-test}

@@ -1,7 +1,7 @@
 -- `rooted::first_lost` meets its contract: either way finds the lowest lost part.
 -- Assumes nothing.
 use mathlib.Core.Bool.{true≢false}
-use mathlib.Core.Path.{_≡_, sym, _∙_}
+use mathlib.Core.Path.{sym, _∙_}
 use borrow.Author.Needs.{needs}
 use Rattle.rooted.proofs.first_lost.Statement.{statement}
 use Rattle.rooted.proofs.first_lost.Tie as tie

@@ -2,11 +2,10 @@
 -- Assumes nothing.
 use native.Mathlib.Nat.{le-of-eq}
 use native.Mathlib.Omega.{arith}
-use mathlib.Core.Path.{_≡_, sym, _∙_, subst}
+use mathlib.Core.Path.{sym, _∙_, subst}
 use borrow.Author.Needs.{needs}
-use Rattle.tree.specs.BottomUp.{OneRoot, BottomUp}
+use Rattle.tree.specs.BottomUp.{OneRoot}
 use Rattle.tree.proofs.BottomUps.{bottom-up-tree}
-use Rattle.leaves.specs.Leaves.{Wooded}
 use Rattle.rooted.proofs.Losing.{one-passes, none-lost, lost-none}
 use Rattle.rooted.proofs.lost_by_leaves.Statement.{statement}
 use Rattle.rooted.proofs.lost_by_leaves.Tie as tie

@@ -5,7 +5,7 @@ use native.Mathlib.Omega.{arith}
 use mathlib.Core.Path.{_≡_, ap, _∙_}
 use borrow.Author.Needs.{needs}
 use lib.ListN.{length, getD}
-use Rattle.leaves.specs.Leaves.{Waiting, entryAt}
+use Rattle.leaves.specs.Leaves.{entryAt}
 use Rattle.leaves.proofs.Waits.{waiting-first, waiting-later, waiting-part, entry-kept, took-both}
 use Rattle.leaves.proofs.take.eight.Statement.{statement}
 use Rattle.leaves.proofs.take.eight.Tie as tie

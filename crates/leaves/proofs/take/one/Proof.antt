@@ -1,10 +1,10 @@
 -- `leaves::take::one` meets its contract: one less is left that names the entry.
 -- Assumes nothing.
 use native.Mathlib.Omega.{arith}
-use Prim.Native.Nat.{_+_, _-_, _≤_, _<_}
-use mathlib.Core.Path.{_≡_, refl}
+use Prim.Native.Nat.{_+_, _-_, _<_}
+use mathlib.Core.Path.{refl}
 use borrow.Author.Needs.{needs}
-use lib.ListN.{length, getD, set, length-set}
+use lib.ListN.{length, getD, length-set}
 use Rattle.leaves.proofs.Waits.{waiting-entry, took-entry}
 use Rattle.leaves.proofs.take.one.Statement.{statement}
 use Rattle.leaves.proofs.take.one.Tie as tie

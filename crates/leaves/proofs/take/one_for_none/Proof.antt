@@ -1,7 +1,5 @@
 -- `leaves::take::one_for_none` meets its contract.
 -- Assumes nothing.
-use native.Mathlib.Omega.{arith}
-use borrow.Author.Needs.{needs}
 use borrow.Author.Tests.{eq-eqb, ne-eqb}
 use mathlib.Core.Path.{refl}
 use lib.Dec.{lit≤}

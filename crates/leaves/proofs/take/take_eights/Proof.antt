@@ -1,11 +1,10 @@
 -- `leaves::take::take_eights` meets its contract: the place is a multiple of eight.
 -- Assumes nothing.
-use Prim.Native.Nat.{_+_, _-_, _*_, _/_, _%_, _≤_, _<_}
+use Prim.Native.Nat.{_-_, _*_, _/_, _%_}
 use native.Mathlib.Omega.{arith}
-use mathlib.Core.Path.{_≡_, refl, _∙_, subst}
-use borrow.Author.Needs.{needs}
-use lib.ListN.{length, getD}
-use Rattle.leaves.specs.Leaves.{Wooded, Taking, Waiting}
+use mathlib.Core.Path.{_≡_, refl, _∙_}
+use lib.ListN.{length}
+use Rattle.leaves.specs.Leaves.{Taking, Waiting}
 use Rattle.leaves.proofs.Naming.{wooded-same}
 use Rattle.leaves.proofs.Taken.{found-below}
 use Rattle.leaves.proofs.Waits.{waiting-part}

@@ -2,9 +2,9 @@
 -- Assumes nothing.
 use native.Mathlib.Omega.{arith}
 use borrow.Author.Needs.{needs}
-use Prim.Native.Nat.{_+_, _-_, _≤_, _<_}
+use Prim.Native.Nat.{_-_}
 use mathlib.Core.Path.{_≡_, refl, _∙_}
-use lib.ListN.{length, getD, set, length-set}
+use lib.ListN.{length, length-set}
 use Rattle.leaves.proofs.Naming.{Seeding, seeding-start, seeding-step, seeding-end}
 use Rattle.leaves.proofs.take.unnamed.Statement.{statement}
 use Rattle.leaves.proofs.take.unnamed.Tie as tie

@@ -1,14 +1,13 @@
 -- `wear::sums::add_up` meets its contract: each part's total is whole when it is added to its parent's.
 -- Assumes nothing.
 use native.Mathlib.Omega.{arith}
-use borrow.Author.Needs.{needs}
 use Prim.Native.Nat.{ℕ, suc, _+_, _-_, _*_, _≤_, _<_}
-use mathlib.Core.Path.{_≡_, sym, _∙_, subst}
+use mathlib.Core.Path.{sym, subst}
 use mathlib.Core.List.{List}
 use lib.ListN.{length, getD}
 use Rattle.tree.specs.Tree.{parent}
 use Rattle.wear.specs.Totals.{countLimit}
-use Rattle.wear.proofs.Climbing.{Adds, Adding, Next, adding-start, next, adding-step, adding-end}
+use Rattle.wear.proofs.Climbing.{Adds, Adding, adding-start, next, adding-step, adding-end}
 use Rattle.wear.proofs.sums.add_up.Statement.{statement}
 use Rattle.wear.proofs.sums.add_up.Tie as tie
 
