@@ -8,13 +8,13 @@ use tree::Outcome;
 use tree::Refusal;
 ghost use mathlib.Core.Path.{_≡_};
 ghost use mathlib.Core.Bool.{true};
-ghost use Prim.Native.Nat.{_≤_};
+ghost use Prim.Native.Nat.{ℕ, _≤_};
 ghost use lib.ListN.{length};
 ghost use Rattle.tree.specs.Tree.{rootOf};
 ghost use Rattle.tree.specs.Tests.{limit, firstLost};
-ghost use Rattle.tree.specs.BottomUp.{BottomUp};
+ghost use Rattle.tree.specs.BottomUp.{OneRoot, BottomUp};
 ghost use Rattle.rooted.specs.Jumps.{Roomy, Rooted};
-ghost use Rattle.rooted.specs.Tested.{TreeTested};
+ghost use Rattle.rooted.specs.Tested.{RootRefused, TreeTested};
 
 // The part that names itself, of a sheet that has one; else the lowest such part, or the number of parts where there is none.
 pub fn root(parents: &[u16]) -> usize
@@ -24,22 +24,27 @@ pub fn root(parents: &[u16]) -> usize
 }
 
 // Tests 4 to 7, the parts counted from `shift` on. The loop test keeps its links in `work`; where the sheet is accepted and an order is asked for, the first
-// n − 1 cells are a bottom-up order afterwards. Most sheets have one root: that is told by one pass, and only where it is not so, the tests are made one by one.
+// n − 1 cells are a bottom-up order afterwards. Whether tests 4 to 6 pass is told by one pass; only where they do not, the first that fails is looked for.
 pub fn test_tree(parents: &[u16], shift: usize, ordered: bool, work: &mut [u16]) -> Outcome
     requires { ⌜ Roomy (now parents) (now work) × (shift ≤ limit) ⌝ }
     ensures { λ r. ⌜ TreeTested (now (parents .entry)) shift ordered r (now (work .exit)) ⌝ }
 {
+    let n = parents.len();
     let root = scan::lone_root(parents);
-    if root < parents.len() {
-        return test_loops(parents, shift, root, ordered, work);
+    if n <= root {
+        return refuse_root(parents, shift);
     }
-    test_singly(parents, shift, ordered, work)
+    let v = first_lost(parents, root, ordered, work);
+    if v < n {
+        return Outcome::Refused(Refusal::Cycle(shift + v));
+    }
+    Outcome::Accepted
 }
 
-// The same, test by test.
-fn test_singly(parents: &[u16], shift: usize, ordered: bool, work: &mut [u16]) -> Outcome
-    requires { ⌜ Roomy (now parents) (now work) × (shift ≤ limit) ⌝ }
-    ensures { λ r. ⌜ TreeTested (now (parents .entry)) shift ordered r (now (work .exit)) ⌝ }
+// The refusal of a sheet that does not pass tests 4 to 6.
+fn refuse_root(parents: &[u16], shift: usize) -> Outcome
+    requires { ⌜ (length (now parents) ≤ limit) × (shift ≤ limit) × ((r : ℕ) → OneRoot (now parents) r → ⊥) ⌝ }
+    ensures { λ r. ⌜ RootRefused (now (parents .entry)) shift r ⌝ }
 {
     let n = parents.len();
     let off = cells::first_from(parents, n);
@@ -51,28 +56,7 @@ fn test_singly(parents: &[u16], shift: usize, ordered: bool, work: &mut [u16]) -
         return Outcome::Refused(Refusal::NoRoot);
     }
     let second = scan::second_root(parents, root);
-    if second < n {
-        return Outcome::Refused(Refusal::SecondRoot(shift + second));
-    }
-    test_loops(parents, shift, root, ordered, work)
-}
-
-// Test 7 of a sheet that has passed tests 4 to 6.
-fn test_loops(
-    parents: &[u16],
-    shift: usize,
-    root: usize,
-    ordered: bool,
-    work: &mut [u16],
-) -> Outcome
-    requires { ⌜ Rooted (now parents) (now work) root × (shift ≤ limit) ⌝ }
-    ensures { λ r. ⌜ TreeTested (now (parents .entry)) shift ordered r (now (work .exit)) ⌝ }
-{
-    let v = first_lost(parents, root, ordered, work);
-    if v < parents.len() {
-        return Outcome::Refused(Refusal::Cycle(shift + v));
-    }
-    Outcome::Accepted
+    Outcome::Refused(Refusal::SecondRoot(shift + second))
 }
 
 // The lowest part whose climb never meets the root; the number of parts where there is none.

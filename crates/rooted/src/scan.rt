@@ -4,7 +4,7 @@ ghost use mathlib.Core.Path.{_≡_};
 ghost use Prim.Native.Nat.{ℕ, suc, _≤_, _<_};
 ghost use mathlib.Core.Bool.{false, cond};
 ghost use mathlib.Core.Logic.{_≢_};
-ghost use lib.Dec.{eqb};
+ghost use lib.Dec.{eqb, ltb};
 ghost use lib.ListN.{length, getD};
 ghost use Rattle.tree.specs.Tree.{nextRoot};
 ghost use Rattle.tree.specs.Tests.{limit};
@@ -13,7 +13,8 @@ ghost use Rattle.tree.specs.BottomUp.{OneRoot};
 // The one part that names itself, where every entry is a part; else the number of parts. It stops at no part, so that several are looked at at once.
 pub(crate) fn lone_root(parents: &[u16]) -> usize
     requires { ⌜ length (now parents) ≤ limit ⌝ }
-    ensures { λ r. ⌜ (r < length (now (parents .entry)) → OneRoot (now (parents .entry)) r) ⌝ }
+    ensures { λ r. ⌜ (r < length (now (parents .entry)) → OneRoot (now (parents .entry)) r)
+        × (length (now (parents .entry)) ≤ r → (q : ℕ) → OneRoot (now (parents .entry)) q → ⊥) ⌝ }
 {
     let n = parents.len();
     let mut most: u16 = 0;
@@ -38,7 +39,7 @@ pub(crate) fn lone_root(parents: &[u16]) -> usize
 
 // The larger of two numbers.
 fn larger(a: u16, b: u16) -> u16
-    ensures { λ r. ⌜ (a ≤ r) × (b ≤ r) ⌝ }
+    ensures { λ r. ⌜ r ≡ cond (ltb a b) b a ⌝ }
 {
     if a < b {
         return b;

@@ -7,7 +7,7 @@ use lib.Dec.{lit<}
 use lib.ListN.{length}
 use Rattle.tree.specs.Tree.{isRoot}
 use Rattle.tree.proofs.Scans.{count-most}
-use Rattle.rooted.proofs.Surveying.{Surveyed, surveyed-start, surveyed-step, surveyed-end}
+use Rattle.rooted.proofs.Surveying.{Surveyed, surveyed-start, surveyed-step, surveyed-end, surveyed-one}
 use Rattle.rooted.proofs.scan.lone_root.Statement.{statement}
 use Rattle.rooted.proofs.scan.lone_root.Tie as tie
 
@@ -64,19 +64,25 @@ loop-again : tie.Need-loop-again Inv-loop μ-loop
 loop-again c =
     let l = c .before .before .before .before .before .loop in
     let larger = c .before .before .larger in (
-      surveyed-step (l .inv .0) (c .before .before .before .before .loop-test .taken) (larger .ensures .0) (larger .ensures .1)
+      surveyed-step (l .inv .0) (c .before .before .before .before .loop-test .taken) (larger .ensures)
           (c .before .if-equal .ensures .0) (c .if-equal2 .ensures .0),
       let ok = larger .ok in omega arith,
     )
 
 returns : tie.Need-returns Inv-loop μ-loop
-returns c = λ h. absurd (omega arith)
+returns c = (
+  λ h. absurd (omega arith),
+  λ _ q one. c .if1 .taken (surveyed-one (c .before .before .loop .inv .0) (c .before .loop-test .left) one .0),
+)
 
 cast-if2 : tie.Need-cast-if2 Inv-loop μ-loop
 cast-if2 c = let range = c .before .before .loop .inv .1 in omega arith
 
 returns-2 : tie.Need-returns-2 Inv-loop μ-loop
-returns-2 c = λ h. absurd (omega arith)
+returns-2 c = (
+  λ h. absurd (omega arith),
+  λ _ q one. let top = surveyed-one (c .before .before .before .loop .inv .0) (c .before .before .loop-test .left) one .1 in absurd (omega (arith, c .if2 .taken)),
+)
 
 cast-result : tie.Need-cast-result Inv-loop μ-loop
 cast-result c =
@@ -87,7 +93,10 @@ cast-result c =
     omega arith
 
 returns-3 : tie.Need-returns-3 Inv-loop μ-loop
-returns-3 c = λ _. surveyed-end (c .before .before .before .loop .inv .0) (c .before .before .loop-test .left) (c .before .if1 .left) (c .if2 .left)
+returns-3 c =
+    let l = c .before .before .before .loop .inv .0 in
+    let one = surveyed-end l (c .before .before .loop-test .left) (c .before .if1 .left) (c .if2 .left) in
+    (λ _. one, λ h q _. let part = one .part in absurd (omega arith))
 
 pub lone-root-spec : {M : Type 1} → statement M
 lone-root-spec =
