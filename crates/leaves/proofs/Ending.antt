@@ -1,7 +1,7 @@
 -- What the order is when no leaf is left: on one rooted tree, and on no other sheet with one root, it has all parts but the root. With it, falling numbers
 -- where no part names a later one.
 -- Assumes nothing.
-use Prim.Native.Nat.{ℕ, zero, suc, _+_, _-_, _≤_, _<_}
+use Prim.Native.Nat.{ℕ, zero, suc, _+_, _-_, _*_, _≤_, _<_}
 use native.Mathlib.Omega.{arith}
 use mathlib.Core.Path.{_≡_, refl, sym, ap, _∙_}
 use mathlib.Core.Logic.{_≢_}
@@ -9,12 +9,14 @@ use mathlib.Core.Bool.{Bool, true, not}
 use mathlib.Core.List.{List}
 use borrow.Author.Tests.{eq-eqb, ne-eqb, eqb-true, eqb-false, not-true}
 use lib.Dec.{eqb}
-use lib.ListN.{length, getD}
+use lib.ListN.{length, getD, set, length-set}
+use lib.Seq.{getD-set-other}
 use Rattle.tree.specs.Scan.{countBelow}
 use Rattle.tree.specs.Tree.{parent, level, rootOf, Tree}
-use Rattle.tree.specs.BottomUp.{BottomUp}
+use Rattle.tree.specs.BottomUp.{BottomUp, Edges}
 use Rattle.tree.proofs.Scans.{count-one}
 use Rattle.tree.proofs.Trees.{level-below, level-parent}
+use Rattle.tree.proofs.Differences.{store-either}
 use Rattle.tree.proofs.Pigeonhole.{count-apart, count-cover}
 use Rattle.tree.proofs.BottomUps.{listing-order}
 use Rattle.leaves.specs.Leaves.{Wooded, names, Taking, Falling}
@@ -52,7 +54,7 @@ module _ {s w : List ℕ} {k : ℕ} (g : Wooded s w) (l : Taking s w k k) where
       let mine = ordered-others in
       absurd (omega arith))
 
-  pub taken-order : suc k ≡ length s → BottomUp s w
+  taken-order : suc k ≡ length s → BottomUp s w
   taken-order all =
       let room = g .room in
       listing-order (g .one .inside)
@@ -66,6 +68,9 @@ module _ {s w : List ℕ} {k : ℕ} (g : Wooded s w) (l : Taking s w k k) where
             (at .0, omega arith, at .2);
         first = λ i c h b e. l .first i c (omega arith) b e;
       })
+
+  pub taken-edges : suc k ≡ length s → Edges s w
+  taken-edges all = record { order = taken-order all; entry = λ i h. l .beside i (omega arith) }
 
   -- on a tree every part but the root comes to be taken, the deepest first
   module _ (t : Tree s) where
@@ -95,7 +100,25 @@ module _ {s w : List ℕ} {k : ℕ} (g : Wooded s w) (l : Taking s w k k) where
 
 -- ---- falling numbers
 
-pub falling-order : {s w : List ℕ} → Wooded s w → Falling (length s) w → ((v : ℕ) → v < length s → getD s v 0 ≤ v) → BottomUp s w
+-- one cell more, and beside it
+pub falling-step : {s w : List ℕ} {i : ℕ} → 3 * length s ≤ length w → i < length s → Falling s w i
+    → Falling s (set (set w i (length s - 1 - i)) (2 * length s + i) (getD s (length s - 1 - i) 0)) (i + 1)
+falling-step {s} {w} {i} room h l =
+    let n = length s in
+    let v = n - 1 - i in
+    let w₁ = set w i v in
+    let p = getD s v 0 in
+    let cells = length-set w i v in
+    record {
+      cell = λ j b.
+          getD-set-other w₁ (2 * n + i) j p 0 (λ q. absurd (omega arith))
+          ∙ store-either w i v j (n - 1 - j) (omega arith) (λ e. ap (λ (k : ℕ). n - 1 - k) (sym e)) (λ q. l .cell j (omega arith));
+      beside = λ j b. store-either w₁ (2 * n + i) p (2 * n + j) (getD s (n - 1 - j) 0) (omega arith)
+          (λ e. let same : i ≡ j = omega arith in ap (λ (k : ℕ). getD s (n - 1 - k) 0) same)
+          (λ q. getD-set-other w i (2 * n + j) v 0 (λ e. absurd (omega arith)) ∙ l .beside j (omega arith));
+    }
+
+falling-order : {s w : List ℕ} → Wooded s w → Falling s w (length s) → ((v : ℕ) → v < length s → getD s v 0 ≤ v) → BottomUp s w
 unfolding parent
 falling-order {s} {w} g fall earlier =
     let n = length s in
@@ -119,3 +142,10 @@ falling-order {s} {w} g fall earlier =
           let there = fall .cell (n - 1 - c) (omega arith) in
           (n - 1 - c, omega arith, omega arith);
     })
+
+pub falling-edges : {s w : List ℕ} → Wooded s w → Falling s w (length s) → ((v : ℕ) → v < length s → getD s v 0 ≤ v) → Edges s w
+unfolding parent
+falling-edges {s} g fall earlier = record {
+  order = falling-order g fall earlier;
+  entry = λ i h. fall .beside i (omega arith) ∙ ap (λ (v : ℕ). getD s v 0) (sym (fall .cell i (omega arith)));
+}

@@ -128,4 +128,5 @@ seeding-end {s} {w} {found} l = record {
       let all = l .named .counted (getD w i 0) (l .below i h) in
       let some = count-pos (names s (getD w i 0)) (length s) c b (eq-eqb _ _ e) in
       absurd (omega arith);
+  beside = λ i h. absurd (omega arith);
 }

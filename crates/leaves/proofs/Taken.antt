@@ -1,6 +1,6 @@
 -- A part is taken off: it is one less that names its entry, which is put into the order when none is left.
 -- Assumes nothing.
-use Prim.Native.Nat.{ℕ, suc, _+_, _-_, _<_}
+use Prim.Native.Nat.{ℕ, suc, _+_, _-_, _*_, _<_}
 use native.Mathlib.Nat.{mul-one}
 use native.Mathlib.Omega.{arith}
 use mathlib.Core.Path.{_≡_, refl, sym, ap, _∙_}
@@ -98,35 +98,51 @@ module _ {s w : List ℕ} {at found : ℕ} (left : ℕ) (g : Wooded s w) (l : Ta
   abbrev p : ℕ
   p = parent s v
 
+  -- what is stored, but for the entry beside the part; and with it
+  abbrev w₁ : List ℕ
+  w₁ = set (set w (n + p) left) found p
+
   abbrev w′ : List ℕ
-  w′ = set (set w (n + p) left) found p
+  w′ = set w₁ (2 * n + at) p
 
   facts : Next s w at found
   facts = next g l h
 
   -- what the cells hold then
+  other-cell : (i : ℕ) → i ≢ found → i ≢ n + p → i ≢ 2 * n + at → getD w′ i 0 ≡ getD w i 0
+  other-cell i q r e = getD-set-other w₁ (2 * n + at) i p 0 e ∙ getD-set-other (set w (n + p) left) found i p 0 q ∙ getD-set-other w (n + p) i left 0 r
+
   old : (i : ℕ) → i < found → getD w′ i 0 ≡ getD w i 0
-  old i b =
-      let f = facts in
-      getD-set-other (set w (n + p) left) found i p 0 (λ q. absurd (omega arith)) ∙ getD-set-other w (n + p) i left 0 (λ q. absurd (omega arith))
+  old i b = let f = facts in other-cell i (λ q. absurd (omega arith)) (λ q. absurd (omega arith)) (λ q. absurd (omega arith))
 
   pub new : getD w′ found 0 ≡ p
   new =
       let f = facts in
       let room = g .room in
       let same = length-set w (n + p) left in
-      getD-set-same (set w (n + p) left) found p 0 (omega arith)
+      getD-set-other w₁ (2 * n + at) found p 0 (λ q. absurd (omega arith)) ∙ getD-set-same (set w (n + p) left) found p 0 (omega arith)
 
-  left-other : (u : ℕ) → u ≢ p → leftAt s w′ u ≡ leftAt s w u
-  left-other u q =
-      let f = facts in
-      getD-set-other (set w (n + p) left) found (n + u) p 0 (λ e. absurd (omega arith)) ∙ getD-set-other w (n + p) (n + u) left 0 (λ e. q (omega arith))
+  left-other : (u : ℕ) → u < n → u ≢ p → leftAt s w′ u ≡ leftAt s w u
+  left-other u b q = let f = facts in other-cell (n + u) (λ e. absurd (omega arith)) (λ e. q (omega arith)) (λ e. absurd (omega arith))
 
   left-here : leftAt s w′ p ≡ left
   left-here =
       let f = facts in
       let room = g .room in
-      getD-set-other (set w (n + p) left) found (n + p) p 0 (λ e. absurd (omega arith)) ∙ getD-set-same w (n + p) left 0 (omega arith)
+      getD-set-other w₁ (2 * n + at) (n + p) p 0 (λ e. absurd (omega arith))
+      ∙ getD-set-other (set w (n + p) left) found (n + p) p 0 (λ e. absurd (omega arith)) ∙ getD-set-same w (n + p) left 0 (omega arith)
+
+  -- the entry stands beside the part, as others stand beside theirs
+  beside-step : (i : ℕ) → i < at + 1 → getD w′ (2 * n + i) 0 ≡ parent s (getD w′ i 0)
+  beside-step i b =
+      let f = facts in
+      let room = g .room in
+      let cells = length-set (set w (n + p) left) found p ∙ length-set w (n + p) left in
+      by-equal i at
+      (λ q. rw (q, old at h) (getD-set-same w₁ (2 * n + at) p 0 (omega arith)))
+      (λ q.
+      other-cell (2 * n + i) (λ e. absurd (omega arith)) (λ e. absurd (omega arith)) (λ e. q (omega arith))
+      ∙ l .beside i (omega arith) ∙ ap (parent s) (sym (old i (omega arith))))
 
   -- the entry is not in the order yet
   none-is : (i : ℕ) → i < found → getD w i 0 ≢ p
@@ -150,7 +166,7 @@ module _ {s w : List ℕ} {at found : ℕ} (left : ℕ) (g : Wooded s w) (l : Ta
       let mine : leftAt s w′ u ≡ left = ap (leftAt s w′) q ∙ left-here in
       let was : leftAt s w u ≡ leftAt s w p = ap (leftAt s w) q in
       rw (eq-eqb p u (sym q)) (omega arith))
-      (λ q. let mine = left-other u q in rw (ne-eqb p u (λ k. q (sym k))) (omega arith)))
+      (λ q. let mine = left-other u b q in rw (ne-eqb p u (λ k. q (sym k))) (omega arith)))
 
   -- what was in the order is there
   first-old : (i c : ℕ) → i < found → c < n → parent s c ≡ getD w′ i 0 → (j : ℕ) × (j < i) × (getD w′ j 0 ≡ c)
@@ -160,11 +176,11 @@ module _ {s w : List ℕ} {at found : ℕ} (left : ℕ) (g : Wooded s w) (l : Ta
       (at-j .0, lower, old (at-j .0) (omega arith) ∙ at-j .2)
 
   bare-old : (i : ℕ) → i < found → leftAt s w′ (getD w′ i 0) ≡ 0
-  bare-old i b = ap (leftAt s w′) (old i b) ∙ left-other (getD w i 0) (none-is i b) ∙ l .bare i b
+  bare-old i b = ap (leftAt s w′) (old i b) ∙ left-other (getD w i 0) (l .part i b) (none-is i b) ∙ l .bare i b
 
   listed-old : (u : ℕ) → u < n → u ≢ p → leftAt s w′ u ≡ 0 → (i : ℕ) × (i < found) × (getD w′ i 0 ≡ u)
   listed-old u b q e =
-      let at-i = l .listed u b (sym (left-other u q) ∙ e) in
+      let at-i = l .listed u b (sym (left-other u b q) ∙ e) in
       (at-i .0, at-i .1, old (at-i .0) (at-i .1) ∙ at-i .2)
 
   apart-old : (i j : ℕ) → i < j → j < found → getD w′ i 0 ≢ getD w′ j 0
@@ -180,6 +196,7 @@ module _ {s w : List ℕ} {at found : ℕ} (left : ℕ) (g : Wooded s w) (l : Ta
     bare = bare-old;
     listed = λ u b e. by-equal u p (λ q. absurd (some (sym left-here ∙ ap (leftAt s w′) (sym q) ∙ e))) (λ q. listed-old u b q e);
     first = first-old;
+    beside = beside-step;
   }
 
   -- where none is left, all that name the entry are taken
@@ -213,6 +230,7 @@ module _ {s w : List ℕ} {at found : ℕ} (left : ℕ) (g : Wooded s w) (l : Ta
         first = λ i c b k e. by-equal i found
             (λ q. let at-j = all-taken less none-is-left c k (e ∙ ap (λ (x : ℕ). getD w′ x 0) q ∙ new) in let m = at-j .1 in (at-j .0, omega arith, at-j .2))
             (λ q. first-old i c (omega arith) k e);
+        beside = beside-step;
       }
 
   taking-step : {more : ℕ} → left ≡ leftAt s w p - 1 → more ≡ cond (eqb left 0) 1 0 → Taking s w′ (at + 1) (found + more)
@@ -229,5 +247,5 @@ module _ {s w : List ℕ} {at found : ℕ} (left : ℕ) (g : Wooded s w) (l : Ta
     taking = taking-step less is;
     kept = old;
     grown = omega arith;
-    cells = length-set (set w (n + p) left) found p ∙ length-set w (n + p) left;
+    cells = length-set w₁ (2 * n + at) p ∙ length-set (set w (n + p) left) found p ∙ length-set w (n + p) left;
   }

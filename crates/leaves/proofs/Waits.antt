@@ -1,6 +1,6 @@
 -- Parts that wait to be taken: one, and several one behind another.
 -- Assumes nothing.
-use Prim.Native.Nat.{ℕ, _+_, _-_, _≤_, _<_}
+use Prim.Native.Nat.{ℕ, _+_, _-_, _*_, _≤_, _<_}
 use native.Mathlib.Omega.{arith}
 use mathlib.Core.Path.{_≡_, sym, ap, _∙_, subst}
 use mathlib.Core.Bool.{cond}
@@ -30,11 +30,12 @@ module _ {s w : List ℕ} {at found p : ℕ} (g : Waiting s w at 1 found) (is : 
 
   -- it is taken, and its entry stands behind those that are in the order, whether it is one of them or not
   pub took-entry : {left more : ℕ} → left ≡ getD w (length s + p) 0 - 1 → more ≡ cond (eqb left 0) 1 0
-      → let w′ = set (set w (length s + p) left) found p in Took s w at 1 found w′ (found + more) × (getD w′ found 0 ≡ p)
+      → let w′ = set (set (set w (length s + p) left) found p) (2 * length s + at) p in Took s w at 1 found w′ (found + more) × (getD w′ found 0 ≡ p)
   unfolding parent
   took-entry {left} {more} less one-if =
       subst (λ (q : ℕ).
-      let w′ = set (set w (length s + q) left) found q in Took s w at 1 found w′ (found + more) × (getD w′ found 0 ≡ q)) (sym is) (
+      let w′ = set (set (set w (length s + q) left) found q) (2 * length s + at) q in
+      Took s w at 1 found w′ (found + more) × (getD w′ found 0 ≡ q)) (sym is) (
         took-one left (g .wooded) (g .taking) waits (less ∙ ap (λ (q : ℕ). getD w (length s + q) 0 - 1) is) one-if,
         new left (g .wooded) (g .taking) waits,
       )

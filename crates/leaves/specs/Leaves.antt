@@ -1,5 +1,5 @@
--- Leaves that are taken off a sheet: what work holds meanwhile. Its first n cells are the order so far, and the second n say of each part how many name it that
--- are not yet taken.
+-- Leaves that are taken off a sheet: what work holds meanwhile. Its first n cells are the order so far, the second n say of each part how many name it that are
+-- not yet taken, and in the third n stand the entries of those that are, each beside its part.
 -- Assumes nothing.
 use Prim.Native.Nat.{ℕ, _+_, _-_, _*_, _≤_, _<_}
 use mathlib.Core.Path.{_≡_}
@@ -13,11 +13,11 @@ use Rattle.tree.specs.Tree.{parent, rootOf}
 use Rattle.tree.specs.Tests.{limit}
 use Rattle.tree.specs.BottomUp.{OneRoot}
 
--- a sheet that has passed tests 4 to 6 and is not too large, with two cells for each part
+-- a sheet that has passed tests 4 to 6 and is not too large, with three cells for each part
 pub record Wooded (s w : List ℕ) : Type 0 where
   pub one : OneRoot s (rootOf s)
   pub small : length s ≤ limit
-  pub room : 2 * length s ≤ length w
+  pub room : 3 * length s ≤ length w
 
 -- c names p
 abbrev pub names : List ℕ → ℕ → ℕ → Bool
@@ -43,6 +43,8 @@ pub record Taking (s w : List ℕ) (taken found : ℕ) : Type 0 where
   pub listed : (v : ℕ) → v < length s → leftAt s w v ≡ 0 → (i : ℕ) × (i < found) × (getD w i 0 ≡ v)
   -- before each stand all that name it
   pub first : (i c : ℕ) → i < found → c < length s → parent s c ≡ getD w i 0 → (j : ℕ) × (j < i) × (getD w j 0 ≡ c)
+  -- beside each that is taken stands its entry
+  pub beside : (i : ℕ) → i < taken → getD w (2 * length s + i) 0 ≡ parent s (getD w i 0)
 
 -- k parts more wait to be taken
 pub record Waiting (s w : List ℕ) (at k found : ℕ) : Type 0 where
@@ -61,6 +63,7 @@ pub record Took (s w : List ℕ) (at k found : ℕ) (w′ : List ℕ) (r : ℕ) 
   pub grown : found ≤ r
   pub cells : length w′ ≡ length w
 
--- the numbers from n − 1 down to 0 in the first n cells
-pub record Falling (n : ℕ) (w : List ℕ) : Type 0 where
-  pub cell : (i : ℕ) → i < n → getD w i 0 ≡ n - 1 - i
+-- the numbers from n − 1 down in the first k cells, and beside each its entry
+pub record Falling (s w : List ℕ) (k : ℕ) : Type 0 where
+  pub cell : (i : ℕ) → i < k → getD w i 0 ≡ length s - 1 - i
+  pub beside : (i : ℕ) → i < k → getD w (2 * length s + i) 0 ≡ getD s (length s - 1 - i) 0

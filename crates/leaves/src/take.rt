@@ -7,7 +7,7 @@ ghost use lib.Dec.{eqb, ltb};
 ghost use lib.ListN.{length, getD};
 ghost use Rattle.leaves.specs.Leaves.{Wooded, Named, Taking, Waiting, entryAt, Took};
 
-// How many parts were taken, all that can be: they stand in the first cells of work, in the order in which they were taken.
+// How many parts were taken, all that can be: they stand in the first cells of work, in the order in which they were taken, and beside them their entries.
 pub(crate) fn leaves(parents: &[u16], work: &mut [u16]) -> usize
     requires { ⌜ Wooded (now parents) (now work) ⌝ }
     ensures { λ r. ⌜ Taking (now (parents .entry)) (now (work .exit)) r r ⌝ }
@@ -139,7 +139,8 @@ fn two(parents: &[u16], at: usize, p0: u16, p1: u16, found: usize, work: &mut [u
     one(parents, at + 1, p1, half, work)
 }
 
-// Takes a part, whose entry is given: one less is left that names that, and it is put in behind the others when none is. How many are in the order then.
+// Takes a part, whose entry is given: one less is left that names that, and it is put in behind the others when none is. How many are in the order then. The
+// entry is kept beside the part, so that whoever goes by the order need not look it up.
 fn one(parents: &[u16], at: usize, p: u16, found: usize, work: &mut [u16]) -> usize
     requires { ⌜ Waiting (now parents) (now work) at 1 found × (p ≡ entryAt (now parents) (now work) at) ⌝ }
     ensures { λ r. ⌜ Took (now (parents .entry)) (now (work .entry)) at 1 found (now (work .exit)) r × (getD (now (work .exit)) found 0 ≡ p) ⌝ }
@@ -148,6 +149,7 @@ fn one(parents: &[u16], at: usize, p: u16, found: usize, work: &mut [u16]) -> us
     let left = work[n + p as usize] - 1;
     work[n + p as usize] = left;
     work[found] = p;
+    work[2 * n + at] = p;
     found + one_for_none(left)
 }
 

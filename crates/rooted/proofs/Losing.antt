@@ -66,4 +66,4 @@ lost-none {s} {r} one none-is = record {
 -- a refusal leaves no order
 pub tested-refused : {s w : List ℕ} {shift : ℕ} {ordered : Bool} (why : Refusal) → verdict (treeTests shift s) ≡ refused (numberOf why) (placeOf why)
     → TreeTested s shift ordered (Refused why) w
-tested-refused why e = record { outcome = sym e; order = λ _ a. absurd (not-both a e) }
+tested-refused why e = record { outcome = sym e; edges = λ _ a. absurd (not-both a e) }

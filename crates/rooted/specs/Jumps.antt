@@ -8,10 +8,10 @@ use Rattle.tree.specs.Tree.{climb}
 use Rattle.tree.specs.Tests.{limit}
 use Rattle.tree.specs.BottomUp.{OneRoot}
 
--- a sheet that is not too large, with two cells for each part: its link, or its place in an order and a count
+-- a sheet that is not too large, with three cells for each part: its link; or its place in an order, a count and an entry
 pub record Roomy (s w : List ℕ) : Type 0 where
   pub small : length s ≤ limit
-  pub room : 2 * length s ≤ length w
+  pub room : 3 * length s ≤ length w
 
 -- a sheet that is both
 pub record Rooted (s w : List ℕ) (r : ℕ) : Type 0 where

@@ -12,7 +12,7 @@ ghost use Prim.Native.Nat.{ℕ, _≤_};
 ghost use lib.ListN.{length};
 ghost use Rattle.tree.specs.Tree.{rootOf};
 ghost use Rattle.tree.specs.Tests.{limit, firstLost};
-ghost use Rattle.tree.specs.BottomUp.{OneRoot, BottomUp};
+ghost use Rattle.tree.specs.BottomUp.{OneRoot, Edges};
 ghost use Rattle.rooted.specs.Jumps.{Roomy, Rooted};
 ghost use Rattle.rooted.specs.Tested.{RootRefused, TreeTested};
 
@@ -24,7 +24,8 @@ pub fn root(parents: &[u16]) -> usize
 }
 
 // Tests 4 to 7, the parts counted from `shift` on. The loop test keeps its links in `work`; where the sheet is accepted and an order is asked for, the first
-// n − 1 cells are a bottom-up order afterwards. Whether tests 4 to 6 pass is told by one pass; only where they do not, the first that fails is looked for.
+// n − 1 cells are a bottom-up order afterwards, and the third n the entries beside it. Whether tests 4 to 6 pass is told by one pass; only where they do not,
+// the first that fails is looked for.
 pub fn test_tree(parents: &[u16], shift: usize, ordered: bool, work: &mut [u16]) -> Outcome
     requires { ⌜ Roomy (now parents) (now work) × (shift ≤ limit) ⌝ }
     ensures { λ r. ⌜ TreeTested (now (parents .entry)) shift ordered r (now (work .exit)) ⌝ }
@@ -63,7 +64,7 @@ fn refuse_root(parents: &[u16], shift: usize) -> Outcome
 fn first_lost(parents: &[u16], root: usize, ordered: bool, work: &mut [u16]) -> usize
     requires { ⌜ Rooted (now parents) (now work) root ⌝ }
     ensures { λ r. ⌜ (r ≡ firstLost (now (parents .entry)))
-        × (ordered ≡ true → r ≡ length (now (parents .entry)) → BottomUp (now (parents .entry)) (now (work .exit))) ⌝ }
+        × (ordered ≡ true → r ≡ length (now (parents .entry)) → Edges (now (parents .entry)) (now (work .exit))) ⌝ }
 {
     if ordered {
         return lost_by_leaves(parents, root, work);
@@ -75,7 +76,7 @@ fn first_lost(parents: &[u16], root: usize, ordered: bool, work: &mut [u16]) -> 
 fn lost_by_leaves(parents: &[u16], root: usize, work: &mut [u16]) -> usize
     requires { ⌜ Rooted (now parents) (now work) root ⌝ }
     ensures { λ r. ⌜ (r ≡ firstLost (now (parents .entry)))
-        × (r ≡ length (now (parents .entry)) → BottomUp (now (parents .entry)) (now (work .exit))) ⌝ }
+        × (r ≡ length (now (parents .entry)) → Edges (now (parents .entry)) (now (work .exit))) ⌝ }
 {
     if leaves::bottom_up(parents, work) {
         return parents.len();

@@ -80,7 +80,7 @@ module _ (s : List ℕ) (buffer : ℕ) {sizes : Outcome} (told : verdictOf sizes
 -- a refused call leaves no order
 pub order-refused : {s before after : List ℕ} {further : ℕ} {r : Outcome} {why : Refusal} → Tested s (sheetUnfit s before further) before r after
     → r ≡ Refused why → OrderGives s further before r after
-order-refused tested e = record { outcome = tested .outcome; refusal = λ _ _ _. tested .work; order = λ yes-all. absurd (not-both yes-all (stage-no tested e)) }
+order-refused tested e = record { outcome = tested .outcome; refusal = λ _ _ _. tested .work; edges = λ yes-all. absurd (not-both yes-all (stage-no tested e)) }
 
 -- ---- building
 

@@ -7,7 +7,7 @@ use Rattle.tree.specs.declared.Outcome.{Outcome}
 use Rattle.tree.specs.Verdict.{accepted, refused, verdictOf}
 use Rattle.tree.specs.Tests.{verdict, sheetTests}
 use Rattle.tree.specs.Buffers.{workAfter}
-use Rattle.tree.specs.BottomUp.{BottomUp}
+use Rattle.tree.specs.BottomUp.{Edges}
 use Rattle.tree.specs.Lending.{sheetUnfit}
 use Rattle.tree.specs.Answered.{Answered}
 
@@ -23,9 +23,9 @@ SheetGives s further before = Tested s (sheetUnfit s before further) before
 abbrev pub CheckGives : List ℕ → List ℕ → Outcome → List ℕ → Type 0
 CheckGives s = SheetGives s 0
 
--- the same of a call that sums over what parts carry: where it is accepted, work holds a bottom-up order
+-- the same of a call that sums over what parts carry: where it is accepted, work holds the sheet's edges, from the leaves up
 pub record OrderGives (s : List ℕ) (further : ℕ) (before : List ℕ) (r : Outcome) (after : List ℕ) : Type 0 where
   pub outcome : verdictOf r ≡ verdict (sheetTests s (sheetUnfit s before further))
   pub refusal : (number place : ℕ) → verdict (sheetTests s (sheetUnfit s before further)) ≡ refused number place
       → after ≡ workAfter (verdict (sheetTests s (sheetUnfit s before further))) before
-  pub order : verdict (sheetTests s (sheetUnfit s before further)) ≡ accepted → BottomUp s after
+  pub edges : verdict (sheetTests s (sheetUnfit s before further)) ≡ accepted → Edges s after

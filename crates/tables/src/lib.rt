@@ -36,8 +36,8 @@ pub fn admit_sheet(parents: &[u16], further: usize, work: &mut [u16]) -> Outcome
     admit(parents, unfit, work)
 }
 
-// The same for a call that sums over what parts carry: where it is accepted, the first n − 1 cells of `work` are a bottom-up order of the sheet afterwards, and
-// the call that goes by it clears them. Taking leaves off for that order is the loop test.
+// The same for a call that sums over what parts carry: where it is accepted, the first n − 1 cells of `work` are a bottom-up order of the sheet afterwards and
+// its third n the entries beside it, and the call that goes by them clears them. Taking leaves off for that order is the loop test.
 pub fn admit_bottom_up(parents: &[u16], further: usize, work: &mut [u16]) -> Outcome
     ensures { λ r. ⌜ OrderGives (now (parents .entry)) further (now (work .entry)) r (now (work .exit)) ⌝ }
 {

@@ -1,6 +1,6 @@
 -- Bottom-up orders: each part but the root, after all that are bolted into it. What sums over all that a part carries are made along.
 -- Assumes nothing.
-use Prim.Native.Nat.{ℕ, suc, _<_}
+use Prim.Native.Nat.{ℕ, suc, _+_, _*_, _<_}
 use mathlib.Core.Path.{_≡_}
 use mathlib.Core.Logic.{_≢_}
 use mathlib.Core.List.{List}
@@ -24,3 +24,8 @@ pub record BottomUp (s o : List ℕ) : Type 0 where
   pub listed : (v : ℕ) → v < length s → parent s v ≢ v → suc (position o v) < length s
   -- a part stands before the one into which it is bolted
   pub child-first : (c : ℕ) → c < length s → parent s c ≢ c → parent s (parent s c) ≢ parent s c → Before o c (parent s c)
+
+-- the sheet's edges, from the leaves up: such an order in the first cells of w, and in the third n cells beside each part its entry
+pub record Edges (s w : List ℕ) : Type 0 where
+  pub order : BottomUp s w
+  pub entry : (i : ℕ) → suc i < length s → getD w (2 * length s + i) 0 ≡ parent s (getD w i 0)

@@ -1,4 +1,4 @@
--- Totals along a bottom-up order: while it is gone along, each cell holds the part's own count and the totals of those of its children that were passed.
+-- Totals along the edges of a sheet, from the leaves up: meanwhile each cell holds the part's own count and the totals of those of its children that were passed.
 -- Assumes nothing.
 use Prim.Native.Nat.{ℕ, suc, _+_, _*_, _≤_, _<_}
 use native.Mathlib.Omega.{arith}
@@ -14,7 +14,7 @@ use Rattle.tree.specs.Scan.{position}
 use Rattle.tree.specs.Tree.{parent}
 use Rattle.tree.specs.Nodes.{Small}
 use Rattle.tree.specs.Preorder.{isChild}
-use Rattle.tree.specs.BottomUp.{BottomUp}
+use Rattle.tree.specs.BottomUp.{Edges}
 use Rattle.tree.proofs.Scans.{by-test, by-equal, by-order, position-here}
 use Rattle.tree.proofs.Rows.{length-tabulate, cell-tabulate}
 use Rattle.tree.proofs.Differences.{store-either}
@@ -27,8 +27,8 @@ use Rattle.wear.proofs.Weights.{total-children, total-most}
 -- what the totals are added up from
 pub record Adds (s order counts : List ℕ) : Type 0 where
   pub small : Small s
-  pub up : BottomUp s order
-  pub room : length s ≤ length order
+  pub edges : Edges s order
+  pub room : 3 * length s ≤ length order
   pub most : (v : ℕ) → v < length s → countAt counts v ≤ countLimit
 
 -- c is a child of v that stands in the first i cells of the order
@@ -41,11 +41,15 @@ pub record Adding (s order counts totals : List ℕ) (i : ℕ) : Type 0 where
   pub cells : length totals ≡ length s
   pub sum : (v : ℕ) → v < length s → getD totals v 0 ≡ countAt counts v + sumWhere (passed s order i v) (total s counts) (length s)
 
--- the part in the next cell, and its parent
+-- the entry beside the part in cell i
+abbrev pub entryOf : List ℕ → List ℕ → ℕ → ℕ
+entryOf s order i = getD order (2 * length s + i) 0
+
+-- the part in the next cell, and its entry
 pub record Next (s order counts totals : List ℕ) (i : ℕ) : Type 0 where
   pub node : getD order i 0 < length s
-  pub above : parent s (getD order i 0) < length s
-  pub fits : getD totals (parent s (getD order i 0)) 0 + getD totals (getD order i 0) 0 ≤ length s * countLimit
+  pub above : entryOf s order i < length s
+  pub fits : getD totals (entryOf s order i) 0 + getD totals (getD order i 0) 0 ≤ length s * countLimit
 
 module _ {s order counts : List ℕ} (g : Adds s order counts) where
   abbrev n : ℕ
@@ -81,10 +85,13 @@ module _ {s order counts : List ℕ} (g : Adds s order counts) where
     p = parent s v
 
     node : v < n
-    node = g .up .part i more
+    node = g .edges .order .part i more
 
     above : p < n
     above = g .small .tree .inside v node
+
+    beside : entryOf s order i ≡ p
+    beside = g .edges .entry i more
 
     -- its children were passed, so its cell holds its total
     total-whole : getD totals v 0 ≡ total s counts v
@@ -94,9 +101,9 @@ module _ {s order counts : List ℕ} (g : Adds s order counts) where
         (λ c b is.
         let of = is .of in
         let up-c : parent s c ≢ c = λ e. is .other (sym e ∙ of) in
-        let up-v : parent s (parent s c) ≢ parent s c = λ e. g .up .other i more (ap (parent s) (sym of) ∙ e ∙ of) in
-        let first = g .up .child-first c b up-c up-v in
-        let there : position order (parent s c) ≡ i = ap (position order) of ∙ g .up .once i more in
+        let up-v : parent s (parent s c) ≢ parent s c = λ e. g .edges .order .other i more (ap (parent s) (sym of) ∙ e ∙ of) in
+        let first = g .edges .order .child-first c b up-c up-v in
+        let there : position order (parent s c) ≡ i = ap (position order) of ∙ g .edges .order .once i more in
         omega arith)
 
     -- no other part stands there
@@ -115,12 +122,12 @@ module _ {s order counts : List ℕ} (g : Adds s order counts) where
         (λ h. lt-ltb (position order c) i h ∙ sym (lt-ltb (position order c) (i + 1) (omega arith))))
 
     child : isChild s p v ≡ true
-    child = child-test (record { of = refl; other = λ e. g .up .other i more (sym e) })
+    child = child-test (record { of = refl; other = λ e. g .edges .order .other i more (sym e) })
 
     -- the parent's sum has v's total more
     sum-parent : sumWhere (passed s order (i + 1) p) f n ≡ total s counts v + sumWhere (passed s order i p) f n
     sum-parent =
-        let here = g .up .once i more in
+        let here = g .edges .order .once i more in
         where-one (passed s order (i + 1) p) (passed s order i p) f n v node (λ c q. same-other p c q)
         (rw (child, lt-ltb (position order v) (i + 1) (omega arith)))
         (ap (λ (x : Bool). isChild s p v && x) (le-ltb (position order v) i (omega arith)) ∙ and-false (isChild s p v))
@@ -142,13 +149,14 @@ module _ {s order counts : List ℕ} (g : Adds s order counts) where
         let part = where-fewer (isChild s p) (passed s order (i + 1) p) f n (λ j b e. and-eq-true-iff _ _ .0 e .0) in
         let top = total-children (g .small .tree) counts p above in
         let most = total-most s counts p (g .most) in
-        record { node = node; above = above; fits = omega arith }
+        record { node = node; above = rw beside above; fits = rw beside (omega arith) }
 
-    pub adding-step : Adding s order counts (set totals p (getD totals p 0 + getD totals v 0)) (i + 1)
+    pub adding-step : let q = entryOf s order i in Adding s order counts (set totals q (getD totals q 0 + getD totals v 0)) (i + 1)
     adding-step =
         let y = getD totals p 0 + getD totals v 0 in
         let cells = l .cells in
-        record {
+        rw beside
+        (record {
           within = omega arith;
           cells = length-set totals p y ∙ l .cells;
           sum = λ u h.
@@ -159,7 +167,7 @@ module _ {s order counts : List ℕ} (g : Adds s order counts) where
               let grown = sum-parent in
               rw e (omega arith))
               (λ q. l .sum u h ∙ ap (λ (k : ℕ). countAt counts u + k) (sym (sum-other u q)));
-        }
+        })
 
   -- all are passed: the cells are the totals
   pub adding-end : {totals : List ℕ} {i : ℕ} → Adding s order counts totals i → length s ≤ suc i → totals ≡ totalsOf s counts
@@ -169,5 +177,5 @@ module _ {s order counts : List ℕ} (g : Adds s order counts) where
       (λ v h.
       let b : v < length s = rw (sym (l .cells)) h in
       l .sum v b
-      ∙ whole i v b (λ c k is. let listed = g .up .listed c k (λ e. is .other (sym e ∙ is .of)) in omega arith)
+      ∙ whole i v b (λ c k is. let listed = g .edges .order .listed c k (λ e. is .other (sym e ∙ is .of)) in omega arith)
       ∙ sym (cell-tabulate (total s counts) (length s) v b))

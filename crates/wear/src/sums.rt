@@ -1,10 +1,10 @@
-// The totals of an accepted sheet: along a bottom-up order, each part's total is added to that of its entry, and is whole by then.
+// The totals of an accepted sheet: along its edges, from the leaves up, each part's total is added to that of its entry, and is whole by then.
 
 ghost use mathlib.Core.Path.{_≡_};
-ghost use Prim.Native.Nat.{ℕ, _+_, _≤_, _<_};
+ghost use Prim.Native.Nat.{ℕ, _+_, _*_, _≤_, _<_};
 ghost use lib.ListN.{length, getD, set};
 ghost use Rattle.tree.specs.Nodes.{Small};
-ghost use Rattle.tree.specs.BottomUp.{BottomUp};
+ghost use Rattle.tree.specs.BottomUp.{Edges};
 ghost use Rattle.wear.specs.Totals.{countLimit, totalsOf};
 
 // Each count, in 64 bits.
@@ -20,17 +20,16 @@ pub(crate) fn widen(counts: &[u32], totals: &mut [u64])
     }
 }
 
-// The totals of the counts that the cells hold, in their place. The order stands in the first cells of work.
-pub(crate) fn add_up(parents: &[u16], order: &[u16], totals: &mut [u64])
-    requires { ⌜ Small (now parents) × BottomUp (now parents) (now order) × (length (now parents) ≤ length (now order))
+// The totals of the counts that the cells hold, in their place. The parts stand in the first cells of `edges`, and their entries in its third n.
+pub(crate) fn add_up(parents: &[u16], edges: &[u16], totals: &mut [u64])
+    requires { ⌜ Small (now parents) × Edges (now parents) (now edges) × (3 * length (now parents) ≤ length (now edges))
         × (length (now totals) ≡ length (now parents)) × ((v : ℕ) → v < length (now parents) → getD (now totals) v 0 ≤ countLimit) ⌝ }
     ensures { λ _. ⌜ now (totals .exit) ≡ totalsOf (now (parents .entry)) (now (totals .entry)) ⌝ }
 {
     let n = parents.len();
     let mut i = 0;
     while i + 1 < n {
-        let v = order[i] as usize;
-        add(parents[v] as usize, v, totals);
+        add(edges[2 * n + i] as usize, edges[i] as usize, totals);
         i += 1;
     }
 }

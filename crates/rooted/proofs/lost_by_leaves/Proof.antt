@@ -20,9 +20,9 @@ same-length c = search needs
 
 returns : tie.Need-returns
 returns c =
-    let order = c .before .before .before .bottom-up .ensures .0 (c .if1 .taken) in
+    let edges = c .before .before .before .bottom-up .ensures .0 (c .if1 .taken) in
     let rooted = c .before .before .before .before .before .before .before .pre in
-    (none-lost (bottom-up-tree (rooted .one) order), λ _. order)
+    (none-lost (bottom-up-tree (rooted .one) (edges .order)), λ _. edges)
 
 first-cycle-requires : tie.Need-first-cycle-requires
 first-cycle-requires c κs =

@@ -70,7 +70,7 @@ returns-3 c =
     let all : l .first-lost .result ≡ length s = le-antisymm (rw (sym e) at (least-le (lost s) (length s))) (c .if2 .left) in
     record {
       outcome = sym (accepted-tree-tests _ _ (p .entries) (p .below) (p .none) (rw e at (c .if2 .left)));
-      order = λ asked _. l .first-lost .ensures .1 asked all;
+      edges = λ asked _. l .first-lost .ensures .1 asked all;
     }
 
 pub test-tree-spec : {M : Type 1} → statement M

@@ -99,7 +99,7 @@ returns-3 c =
     record {
       outcome = t .test-tree .ensures .outcome ∙ sym decides;
       refusal = λ number place no. absurd (not-both (decides ∙ accepts) no);
-      order = λ _. t .test-tree .ensures .order refl accepts;
+      edges = λ _. t .test-tree .ensures .edges refl accepts;
     }
 
 pub admit-bottom-up-spec : {M : Type 1} → statement M

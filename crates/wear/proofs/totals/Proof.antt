@@ -67,11 +67,11 @@ add-up-requires c κs =
     let g = grants told in
     let same = d .admit-bottom-up .kept .1 .1 .0 in
     let wide = w .widen .ensures in
-    let order = tested d .order (sym (tested d .outcome) ∙ ap verdictOf (told .enum-told .given .1)) in
+    let edges = tested d .edges (sym (tested d .outcome) ∙ ap verdictOf (told .enum-told .given .1)) in
     let ready = g .ready in
     let counted = g .count-cells in (
       record { tree = ready .tree; most = ready .small },
-      order,
+      edges,
       omega arith,
       ap length (wide .0) ∙ counted,
       λ v h. subst (λ (l : List ℕ). getD l v 0 ≤ countLimit) (sym (wide .0)) (wide .1 v (omega arith)),

@@ -2,9 +2,9 @@
 -- Assumes nothing.
 use native.Mathlib.Omega.{arith}
 use Prim.Native.Nat.{_+_, _-_, _<_}
-use mathlib.Core.Path.{refl}
+use mathlib.Core.Path.{refl, _∙_}
 use borrow.Author.Needs.{needs}
-use lib.ListN.{length, getD, length-set}
+use lib.ListN.{length, getD, set, length-set}
 use Rattle.leaves.proofs.Waits.{waiting-entry, took-entry}
 use Rattle.leaves.proofs.take.one.Statement.{statement}
 use Rattle.leaves.proofs.take.one.Tie as tie
@@ -51,6 +51,26 @@ slice-write-work-2 c =
     let kept = length-set (a .work .now) p (getD (a .work .now) p 0 - 1) in
     omega arith
 
+mul-work-3 : tie.Need-mul-work-3
+mul-work-3 c = let f = here c in let g = start c .pre .0 .wooded in omega arith
+
+add-work-2 : tie.Need-add-work-2
+add-work-2 c = let f = here c in let g = start c .pre .0 .wooded in let wait = start c .pre .0 .wait in omega arith
+
+mul-work-4 : tie.Need-mul-work-4
+mul-work-4 c = let f = here c in let g = start c .pre .0 .wooded in let wait = start c .pre .0 .wait in omega arith
+
+slice-write-work-3 : tie.Need-slice-write-work-3
+slice-write-work-3 c =
+    let f = here c in
+    let a = start c .args in
+    let g = start c .pre .0 .wooded in
+    let wait = start c .pre .0 .wait in
+    let p = length (a .parents .now) + a .p in
+    let left = getD (a .work .now) p 0 - 1 in
+    let kept = length-set (set (a .work .now) p left) (a .found) (a .p) ∙ length-set (a .work .now) p left in
+    omega arith
+
 one-for-none-requires : tie.Need-one-for-none-requires
 one-for-none-requires c κs = search needs
 
@@ -80,6 +100,10 @@ one-spec =
     slice-write-work
     mul-work-2
     slice-write-work-2
+    mul-work-3
+    add-work-2
+    mul-work-4
+    slice-write-work-3
     one-for-none-requires
     add-result
     same-length
