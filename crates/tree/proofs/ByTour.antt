@@ -16,7 +16,7 @@ use Rattle.tree.specs.Preorder.{size, tour, firstVisit}
 use Rattle.tree.specs.Tour.{sparse}
 use Rattle.tree.specs.Lca.{Lca, lca}
 use Rattle.tree.specs.Tables.{Lent, own}
-use Rattle.tree.specs.Routes.{nearer, visitAt, firstAt, sparseAt, byBlocks, byTour}
+use Rattle.tree.specs.Routes.{nearer, visitAt, firstAt, sparseAt, blockLog, lastBlock, byBlocks, byTour}
 use Rattle.tree.proofs.Scans.{by-order, by-equal}
 use Rattle.tree.proofs.Climbs.{ancestor-refl, ancestor-inside}
 use Rattle.tree.proofs.Trees.{above, same-level, child-toward}
@@ -31,22 +31,22 @@ use Rattle.tree.proofs.OwnCells.{level-at, visit-at, first-at, sparse-a
 
 -- they stand in the m cells
 pub blocks-fit : (m i j : ℕ) → i ≤ j → j < m
-    → (log2 (j - i + 1) ≤ log2 m) × (i + 2 ^ log2 (j - i + 1) ≤ m) × (2 ^ log2 (j - i + 1) ≤ j + 1)
-    × (j + 1 - 2 ^ log2 (j - i + 1) + 2 ^ log2 (j - i + 1) ≤ m)
+    → (blockLog i j ≤ log2 m) × (i + 2 ^ blockLog i j ≤ m) × (2 ^ blockLog i j ≤ j + 1)
+    × (lastBlock i j + 2 ^ blockLog i j ≤ m)
 blocks-fit m i j h b =
     let low = log2-low (j - i + 1) (omega arith) in
     let high = log2-high m in
     (log2-le (j - i + 1) (log2 m) (omega arith), omega arith, omega arith, omega arith)
 
 -- neither passes the end of i..j, nor its beginning
-blocks-within : (i j : ℕ) → i ≤ j → i + 2 ^ log2 (j - i + 1) ≤ j + 1
+pub blocks-within : (i j : ℕ) → i ≤ j → i + 2 ^ blockLog i j ≤ j + 1
 blocks-within i j h = let low = log2-low (j - i + 1) (omega arith) in omega arith
 
 -- each position i..j is in one of them
-blocks-cover : {X : Type 0} (i j p : ℕ) → p ≤ j → (p < i + 2 ^ log2 (j - i + 1) → X) → (j + 1 - 2 ^ log2 (j - i + 1) ≤ p → X) → X
+pub blocks-cover : {X : Type 0} (i j p : ℕ) → p ≤ j → (p < i + 2 ^ blockLog i j → X) → (lastBlock i j ≤ p → X) → X
 blocks-cover i j p h left right =
     let high = log2-high (j - i + 1) in
-    by-order (i + 2 ^ log2 (j - i + 1)) p (λ b. right (omega arith)) left
+    by-order (i + 2 ^ blockLog i j) p (λ b. right (omega arith)) left
 
 -- ---- the rule
 
@@ -110,8 +110,8 @@ module _ {s : List ℕ} (t : Tree s) where
   nearest {c} {v} {w} hv hw l h =
       let i = firstVisit s v in
       let j = firstVisit s w in
-      let k = log2 (j - i + 1) in
-      let a = j + 1 - 2 ^ k in
+      let k = blockLog i j in
+      let a = lastBlock i j in
       let end = first-inside t w hw in
       let (few, fit, low, fit′) = blocks-fit (visits (length s)) i j h end in
       let within = blocks-within i j h in

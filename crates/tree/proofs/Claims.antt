@@ -21,8 +21,9 @@ use Rattle.tree.specs.Tables.{Lent, own}
 use Rattle.tree.specs.Lending.{unfitOf}
 use Rattle.tree.specs.Routes.{byLabels, byTour}
 use Rattle.tree.specs.Trail.{trail, byLifts, lifts, liftCount}
+use Rattle.tree.specs.Branch.{Branch, branch, Answer, IsAnswer, pairAnswer, answerBy}
 use Rattle.tree.proofs.Trees.{root-found, level-below, climb-level}
-use Rattle.tree.proofs.Lcas.{lca-found, lca-only, pair-only}
+use Rattle.tree.proofs.Lcas.{lca-found, lca-only}
 use Rattle.tree.proofs.Preorders.{preorder-meets, preorder-only}
 use Rattle.tree.proofs.Inlabels.{MostZeros, size-pos, inlabel-most, inlabel-formula}
 use Rattle.tree.proofs.Intervals.{carried-from, carried-to, interval-carried}
@@ -33,6 +34,7 @@ use Rattle.tree.proofs.Cells.{label-length, tour-table-length, lift-len
 use Rattle.tree.proofs.ByLabels.{labels-lca}
 use Rattle.tree.proofs.ByTour.{tour-lca}
 use Rattle.tree.proofs.ByLifts.{lifts-lca, lifts-count}
+use Rattle.tree.proofs.Branches.{branch-found, branch-only, answer-found, rule-answer, answer-only}
 use Rattle.tree.proofs.Fits.{unfit-lowest, lower-first, lower-further}
 use Rattle.tree.proofs.Acceptance.{accepted-tree, tree-accepted}
 
@@ -94,12 +96,24 @@ misfit-lowest t work further b m e =
 pub misfit-further : (t : Lent) (work : List ℕ) (further : ℕ) → 0 < further → (0 < unfitOf t work further) × (unfitOf t work further ≤ further)
 misfit-further t work further some = lower-further _ further some
 
--- each of the three rules, on an accepted sheet's own tables, gives the carrier of two parts: so they agree
+-- document 02, 2026-03: a part that carries x has exactly one branch towards it, and the climber finds it
+pub one-branch : (s : List ℕ) → Accepted s → (c x : ℕ) → x < length s → Ancestor s c x
+    → Branch s c x (branch s c x) × ((b : ℕ) → Branch s c x b → b ≡ branch s c x)
+one-branch s e c x h p = let t = accepted-tree s e .0 in (branch-found t h p, λ b q. branch-only t h q (branch-found t h p))
+
+-- so two parts have exactly one answer: their carrier, and its branch towards each
+pub one-answer : (s : List ℕ) → Accepted s → (x y : ℕ) → x < length s → y < length s
+    → IsAnswer s x y (pairAnswer s x y) × ((a : Answer) → IsAnswer s x y a → a ≡ pairAnswer s x y)
+one-answer s e x y hx hy = let t = accepted-tree s e .0 in (answer-found t hx hy, λ a p. answer-only t hx hy p (answer-found t hx hy))
+
+-- each of the three rules, on an accepted sheet's own tables, gives the answer to two parts, carrier and branches: so they agree
 pub rules-agree : (s : List ℕ) → Accepted s → (x y : ℕ) → x < length s → y < length s
-    → (byLabels (own s) x y ≡ lca s (x ∷ y ∷ [])) × (byTour (own s) x y ≡ lca s (x ∷ y ∷ [])) × (byLifts (own s) x y ≡ lca s (x ∷ y ∷ []))
+    → (answerBy byLabels (own s) x y ≡ pairAnswer s x y) × (answerBy byTour (own s) x y ≡ pairAnswer s x y) × (answerBy byLifts (own s) x y ≡ pairAnswer s x y)
 rules-agree s e x y hx hy =
     let t = accepted-tree s e .0 in
-    (pair-only t hx hy (labels-lca t x y hx hy), pair-only t hx hy (tour-lca t x y hx hy), pair-only t hx hy (lifts-lca t x y hx hy))
+    let only : (rule : Lent → ℕ → ℕ → ℕ) → Lca s (x ∷ y ∷ []) (rule (own s) x y) → answerBy rule (own s) x y ≡ pairAnswer s x y = λ rule l.
+    answer-only t hx hy (rule-answer t rule hx hy l) (answer-found t hx hy) in
+    (only byLabels (labels-lca t x y hx hy), only byTour (tour-lca t x y hx hy), only byLifts (lifts-lca t x y hx hy))
 
 -- the lift rule's trail has as many rows as the sum of ones says
 pub trail-rows : (s : List ℕ) → Accepted s → (x y : ℕ) → x < length s → y < length s → length (trail (own s) x y) ≡ liftCount s x y

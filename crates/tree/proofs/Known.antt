@@ -14,6 +14,7 @@ use Rattle.tree.specs.Tour.{tourTable, sparse, sparseRows}
 use Rattle.tree.specs.Lifts.{liftTable, lift}
 use Rattle.tree.specs.Routes.{step1, step2, step3, labelAbove, byLabels, byTour}
 use Rattle.tree.specs.Trail.{lastRow, falling, levelled, raised, trail, byLifts, lifts, rowCells, onesSum, liftCount}
+use Rattle.tree.specs.Branch.{branch, pairAnswer, branchAt, answerBy}
 use Rattle.tree.specs.Known.{Case, cases}
 
 pub known : map (λ (c : Case). c .given) cases ≡ map (λ (c : Case). c .stated) cases
@@ -25,5 +26,6 @@ unfolding trailingZeros ones onesIn flatten
     preorderNumber size subtree tour isChild eachChild preorderIn preorder tourIn firstVisit
     mostZeros inlabel ascendantIn ascendant headNode labelTable tourTable sparse sparseRows liftTable lift
     step1 step2 step3 labelAbove byLabels byTour
-    lastRow falling levelled raised trail byLifts lifts rowCells onesSum liftCount cases
+    lastRow falling levelled raised trail byLifts lifts rowCells onesSum liftCount
+    branch pairAnswer branchAt answerBy cases
 known = refl

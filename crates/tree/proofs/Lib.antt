@@ -39,6 +39,7 @@ pub mod Falling
 pub mod Levelled
 pub mod Raised
 pub mod ByLifts
+pub mod Branches
 -- the tests of a sheet
 pub mod Verdicts
 pub mod Places

@@ -6,21 +6,12 @@ use mathlib.Core.Path.{_≡_}
 use mathlib.Core.List.{List}
 use lib.ListN.{length, getD}
 use Rattle.tree.specs.Nodes.{Pair, Listed}
-use Rattle.tree.specs.Pairs.{leftOf, rightOf, pairs, eachPair, eachPairRow}
-use Rattle.tree.proofs.Rows.{length-tabulate, cell-tabulate, length-rows, cell-rows}
+use Rattle.tree.specs.Pairs.{leftOf, rightOf, pairs, eachPairRow}
+use Rattle.tree.proofs.Rows.{length-rows, cell-rows}
 
 -- a pair of a question of parts is two parts
 pub question-pair : {s question : List ℕ} → Listed s question → (i : ℕ) → 2 * i + 1 < length question → Pair s (leftOf question i) (rightOf question i)
 question-pair listed i h = record { small = listed .small; left = listed .part _ (omega arith); right = listed .part _ h }
-
--- one cell for each pair
-pub each-pair-length : (f : ℕ → ℕ → ℕ) (question : List ℕ) → length (eachPair f question) ≡ pairs question
-unfolding eachPair
-each-pair-length f question = length-tabulate _ (pairs question)
-
-pub each-pair-cell : (f : ℕ → ℕ → ℕ) (question : List ℕ) (i : ℕ) → i < pairs question → getD (eachPair f question) i 0 ≡ f (leftOf question i) (rightOf question i)
-unfolding eachPair
-each-pair-cell f question i h = cell-tabulate _ (pairs question) i h
 
 -- w cells for each pair
 pub each-row-length : (f : ℕ → ℕ → ℕ → ℕ) (w : ℕ) (question : List ℕ) → length (eachPairRow f w question) ≡ pairs question * w

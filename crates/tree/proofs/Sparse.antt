@@ -1,12 +1,12 @@
 -- The sparse rows of the tour table: row 0 is the positions themselves, each later row follows from the one before it, and each cell that
--- is not 65535 is a position of its block, where none has lesser LEVEL. Assumes nothing.
-use Prim.Native.Nat.{ℕ, suc, _+_, _^_, _≤_, _<_}
-use native.Mathlib.Nat.{pow-suc}
+-- is not 65535 is a position of its block, where none has lesser LEVEL, and none before it as little. Assumes nothing.
+use Prim.Native.Nat.{ℕ, suc, _+_, _-_, _^_, _≤_, _<_}
+use native.Mathlib.Nat.{pow-suc, lt-of-lt-of-le}
 use native.Mathlib.Omega.{arith}
-use mathlib.Core.Path.{_≡_, _∙_}
+use mathlib.Core.Path.{_≡_, ap, _∙_}
 use mathlib.Core.Bool.{true, false, cond}
 use mathlib.Core.List.{List}
-use borrow.Author.Tests.{le-leb, lt-leb, ltb-false}
+use borrow.Author.Tests.{le-leb, lt-leb, ltb-true, ltb-false}
 use lib.ListN.{length, getD}
 use lib.Pow.{pow-pos}
 use Rattle.tree.specs.Scan.{tabulateFrom, numbersFrom, bestFrom, best}
@@ -14,6 +14,7 @@ use Rattle.tree.specs.Tree.{level}
 use Rattle.tree.specs.Buffers.{noCell, visits}
 use Rattle.tree.specs.Preorder.{tour}
 use Rattle.tree.specs.Tour.{lesserLevel, sparse}
+use Rattle.tree.proofs.Scans.{by-test}
 use Rattle.tree.proofs.Bests.{Best, ltb-asym, ltb-trans, best-is, best-append, numbers-length, numbers-append, numbers-member, member-numbers}
 
 module _ (s : List ℕ) where
@@ -71,3 +72,27 @@ module _ (s : List ℕ) where
   pub sparse-least : (j i p : ℕ) → i + 2 ^ j ≤ visits (length s) → i ≤ p → p < i + 2 ^ j
       → level s (getD (tour s) (sparse s j i) 0) ≤ level s (getD (tour s) p 0)
   sparse-least j i p h from to = ltb-false _ _ (best-position j i h .wins p (member-numbers i (2 ^ j) p from to))
+
+  -- .. and each that stands before it in the block has greater
+  pub sparse-first : (j i p : ℕ) → i + 2 ^ j ≤ visits (length s) → i ≤ p → p < sparse s j i
+      → level s (getD (tour s) (sparse s j i) 0) < level s (getD (tour s) p 0)
+  sparse-first j i p h from to =
+      let end = sparse-to j i h in
+      let k = p + 1 - i in
+      let m = 2 ^ j - k in
+      let all : 2 ^ j ≡ k + m = omega arith in
+      let left = best (lesserLevel s) noCell (numbersFrom i k) in
+      let right = best (lesserLevel s) noCell (numbersFrom (i + k) m) in
+      let some : 0 < length (numbersFrom i k) = rw numbers-length (omega arith) in
+      let more : 0 < length (numbersFrom (i + k) m) = rw numbers-length (omega arith) in
+      let won = best-is (lesserLevel s) lesser-asym lesser-trans noCell (numbersFrom i k) some in
+      let upto = numbers-member i k left (won .member) in
+      let low = ltb-false _ _ (won .wins p (member-numbers i k p from (omega arith))) in
+      let is : sparse s j i ≡ cond (lesserLevel s right left) right left =
+      leftmost j i h
+      ∙ ap (λ (l : ℕ). best (lesserLevel s) noCell (numbersFrom i l)) all
+      ∙ ap (best (lesserLevel s) noCell) (numbers-append i k m)
+      ∙ best-append (lesserLevel s) lesser-asym lesser-trans noCell (numbersFrom i k) (numbersFrom (i + k) m) some more in
+      by-test (lesserLevel s right left)
+      (λ e. let there : sparse s j i ≡ right = rw e at is in rw there (lt-of-lt-of-le (ltb-true _ _ e) low))
+      (λ e. let there : sparse s j i ≡ left = rw e at is in absurd (omega arith))

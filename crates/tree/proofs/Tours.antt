@@ -13,7 +13,7 @@ use Rattle.tree.specs.Preorder.{eachChild, preorderNumber, size, tourIn,
 use Rattle.tree.specs.Buffers.{visits}
 use Rattle.tree.proofs.Scans.{by-equal, position-here, position-at-most}
 use Rattle.tree.proofs.Climbs.{ancestor-refl, ancestor-parent, ancestor-trans, ancestor-above, ancestor-inside}
-use Rattle.tree.proofs.Trees.{root-climb, root-found, level-root, level-below, level-parent, from-root, above}
+use Rattle.tree.proofs.Trees.{root-climb, root-found, level-root, level-below, level-parent, from-root, above, child-toward}
 use Rattle.tree.proofs.PreorderList.{child-deeper}
 use Rattle.tree.proofs.Sums.{each-length, sum-same, sum-double, summand}
 use Rattle.tree.proofs.Blocks.{Stands, stands-at, stands-within, stands-right, Visiting, Block, block-opens, block-child, block}
@@ -258,3 +258,37 @@ module _ {s : List ℕ} (t : Tree s) where
   visit-carried {a} i h from to =
       let begin = first-start a h in
       cover-block a i (λ v b p e. rw (e, start-cell v b) p) (λ v b q p e. rw (e, after-cell v b q) p) h (omega arith) (omega arith)
+
+  -- those of what a node carries below itself end sooner than its own
+  pub carried-sooner : {a v : ℕ} → v < length s → Ancestor s a v → v ≢ a → firstVisit s v + 2 * size s v < firstVisit s a + 2 * size s a
+  carried-sooner {a} {v} h p q =
+      let within = carried-to t h p in
+      let c = child-toward t h p q in
+      let deep = c .deeper in
+      let lower = above t h (c .carries) .lower in
+      let here = first-visit v h in
+      let there = first-visit a (ancestor-inside (t .inside) h p) in
+      let pos = preorder-pos s a in
+      omega (arith, preorder-pos s v)
+
+  -- a node's visits end with one of it: any other node there is one that it carries, whose visits would not end sooner
+  pub visit-last : (v : ℕ) → v < length s → getD (tour s) (firstVisit s v + 2 * size s v - 2) 0 ≡ v
+  visit-last v h =
+      let some = size-sum t v h in
+      let end = visits-end v h in
+      let i = firstVisit s v + 2 * size s v - 2 in
+      by-visit i (omega arith) (visit-carried i h (omega arith) (omega arith)) (visit-cover i (omega arith))
+    where
+      by-visit : (i : ℕ) → i + 2 ≡ firstVisit s v + 2 * size s v → Ancestor s v (getD (tour s) i 0) → Visit s i → getD (tour s) i 0 ≡ v
+      by-visit i last p (first u b e) =
+          let here : getD (tour s) i 0 ≡ u = rw e (visit-first u b) in
+          by-equal u v (λ q. here ∙ q)
+          (λ q. let sooner = carried-sooner b (rw here at p) q in let some = size-sum t u b in absurd (omega arith))
+      by-visit i last p (after u b q e) =
+          let here : getD (tour s) i 0 ≡ parent s u = rw e (visit-after u b q) in
+          by-equal (parent s u) v (λ r. here ∙ r)
+          (λ r.
+          let sooner = carried-sooner (t .inside u b) (rw here at p) r in
+          let own = carried-sooner b (ancestor-parent s u) (λ y. q (sym y)) in
+          let some = size-sum t u b in
+          absurd (omega arith))

@@ -42,9 +42,9 @@ workCells n = 4 * n
 abbrev pub trailCells : ℕ
 trailCells = 64
 
--- the cells of a pair's answer: its carrier
+-- a pair's answer: "Answer cells are three per pair from now on: carrier, x's branch, y's branch"
 abbrev pub answerWidth : ℕ
-answerWidth = 1
+answerWidth = 3
 
 -- the answer to the pairs of a question of so many cells
 abbrev pub answerCells : ℕ → ℕ
@@ -89,7 +89,7 @@ pairsQuestionFit cells = record { buffer = 5; fits = eqb (cells % 2) 0 }
 abbrev pub trailQuestionFit : ℕ → Fit
 trailQuestionFit = exactFit 5 2
 
--- 6 answer: "one cell per pair, one for a list or trail"
+-- 6 answer: "three per pair .. a trail or list keeps its one cell"
 abbrev pub pairsAnswerFit : ℕ → ℕ → Fit
 pairsAnswerFit question = exactFit 6 (answerCells question)
 

@@ -9,7 +9,6 @@ use Rattle.tree.specs.declared.Refusal.the-variants.{NoRoot, SecondRoot,
 use Rattle.tree.specs.declared.Outcome.{Outcome}
 use Rattle.tree.specs.declared.Outcome.the-variants.{Accepted, Refused}
 use Rattle.tree.specs.Scan.{tabulate}
-use Rattle.tree.specs.Lca.{lca}
 use Rattle.tree.specs.Verdict.{Verdict, accepted, refused, verdictOf}
 use Rattle.tree.specs.Tests.{verdict, sheetTests, nodeOutOfRange, noCommonAncestor}
 use Rattle.tree.specs.Preorder.{preorderNumber, size, subtree, tour}
@@ -18,6 +17,7 @@ use Rattle.tree.specs.Labels.{inlabel, ascendant, headNode, labelTable}
 use Rattle.tree.specs.Tables.{own}
 use Rattle.tree.specs.Routes.{byLabels, byTour}
 use Rattle.tree.specs.Trail.{trail, rowCells, byLifts, lifts, liftCount}
+use Rattle.tree.specs.Branch.{pairAnswer, answerList, answerBy}
 
 -- what the definitions give, and what is stated
 pub record Case : Type 0 where
@@ -44,11 +44,14 @@ checked s outcome number place = record {
   stated = number ∷ place ∷ number ∷ place ∷ [];
 }
 
--- a pair of the seven parts whose carrier, by its definition and by each route's rule, is c
-abbrev pairGives : ℕ → ℕ → ℕ → Case
-pairGives x y c = record {
-  given = lca seven (x ∷ y ∷ []) ∷ byLabels (own seven) x y ∷ byTour (own seven) x y ∷ byLifts (own seven) x y ∷ [];
-  stated = c ∷ c ∷ c ∷ c ∷ [];
+-- a pair of the seven parts whose carrier is c, with the branches a towards x and b towards y: by their definitions, and by each route's rule
+abbrev pairGives : ℕ → ℕ → ℕ → ℕ → ℕ → Case
+pairGives x y c a b = record {
+  given =
+      answerList (pairAnswer seven x y)
+      ++ (answerList (answerBy byLabels (own seven) x y)
+      ++ (answerList (answerBy byTour (own seven) x y) ++ answerList (answerBy byLifts (own seven) x y)));
+  stated = c ∷ a ∷ b ∷ c ∷ a ∷ b ∷ c ∷ a ∷ b ∷ c ∷ a ∷ b ∷ [];
 }
 
 -- its lifts, by the trail's length and by the sum of ones
@@ -77,18 +80,18 @@ cases =
     ∷ record { given = length (own seven .label) ∷ length (own seven .tour) ∷ length (own seven .lift) ∷ []; stated = 42 ∷ 72 ∷ 21 ∷ [] }
     ∷ record { given = labelCells 7 ∷ tourCells 7 ∷ liftCells 7 ∷ []; stated = 42 ∷ 72 ∷ 21 ∷ [] }
     -- "pair 6 6 gives 6, 0 lifts"
-    ∷ pairGives 6 6 6
+    ∷ pairGives 6 6 6 6 6
     ∷ pairLifts 6 6 0
     -- "pair 0 6 gives 0, 2 lifts, rows (0,2), (0,0)"
-    ∷ pairGives 0 6 0
+    ∷ pairGives 0 6 0 0 2
     ∷ pairLifts 0 6 2
     ∷ pairRows 0 6 (0 ∷ 2 ∷ 0 ∷ 0 ∷ [])
     -- "pair 3 6 has rows (3,5), (1,2), (0,0)"; the example above it has carrier 0 and 3 lifts
-    ∷ pairGives 3 6 0
+    ∷ pairGives 3 6 0 1 2
     ∷ pairLifts 3 6 3
     ∷ pairRows 3 6 (3 ∷ 5 ∷ 1 ∷ 2 ∷ 0 ∷ 0 ∷ [])
     -- "pair 5 6 gives 5"
-    ∷ pairGives 5 6 5
+    ∷ pairGives 5 6 5 5 6
     -- "sheet 0 is accepted, label cells 1 1 0 1 1 0. Sheet 1 1 is accepted"
     ∷ checked (0 ∷ []) Accepted 0 0
     ∷ record { given = labelTable (0 ∷ []); stated = 1 ∷ 1 ∷ 0 ∷ 1 ∷ 1 ∷ 0 ∷ [] }
@@ -109,4 +112,8 @@ cases =
     -- 10 at position 0, of a part that is none of the seven; a part of them
     ∷ record { given = shown (verdict (nodeOutOfRange seven 0 (7 ∷ []) ∷ [])); stated = 10 ∷ 0 ∷ [] }
     ∷ record { given = shown (verdict (nodeOutOfRange seven 0 (6 ∷ []) ∷ [])); stated = 0 ∷ 0 ∷ [] }
+    -- 2026-03: the example's other pair; two parts with the longer way first; a part with one that it carries, two steps below
+    ∷ pairGives 3 4 1 3 4
+    ∷ pairGives 6 3 0 2 1
+    ∷ pairGives 6 2 2 5 2
     ∷ []

@@ -14,6 +14,7 @@ pub mod Tables
 pub mod Sections
 pub mod Routes
 pub mod Trail
+pub mod Branch
 -- "Numbers on the operator's screen"
 pub mod Verdict
 pub mod Tests

@@ -87,12 +87,16 @@ firstAt t v = getD (t .tour) (visits (parts t) + v) 0
 abbrev pub sparseAt : Lent → ℕ → ℕ → ℕ
 sparseAt t j i = cell (t .tour) (visits (parts t) + parts t) (visits (parts t)) j i
 
--- "two blocks of length 2^k, k = log(j−i+1), over first positions i ≤ j: one begins at i, the other ends at j. Of the two positions that
--- their cells give, the answer is the part visited at the one of lesser LEVEL, the left one at equal LEVELs"
+-- "two blocks of length 2^k, k = log(j−i+1), over first positions i ≤ j: one begins at i, the other ends at j"
+abbrev pub blockLog : ℕ → ℕ → ℕ
+blockLog i j = log2 (j - i + 1)
+
+abbrev pub lastBlock : ℕ → ℕ → ℕ
+lastBlock i j = j + 1 - 2 ^ blockLog i j
+
+-- "Of the two positions that their cells give, the answer is the part visited at the one of lesser LEVEL, the left one at equal LEVELs"
 abbrev pub byBlocks : Lent → ℕ → ℕ → ℕ
-byBlocks t i j =
-    let k = log2 (j - i + 1) in
-    nearer t (visitAt t (sparseAt t k i)) (visitAt t (sparseAt t k (j + 1 - 2 ^ k)))
+byBlocks t i j = nearer t (visitAt t (sparseAt t (blockLog i j) i)) (visitAt t (sparseAt t (blockLog i j) (lastBlock i j)))
 
 -- "A tour answer takes" them over the first positions of both parts
 unfoldable pub byTour : Lent → ℕ → ℕ → ℕ
