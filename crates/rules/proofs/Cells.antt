@@ -10,12 +10,12 @@ use lib.ListN.{length, getD}
 use Rattle.bits.specs.Bits.{log2}
 use Rattle.tree.specs.Tree.{Tree}
 use Rattle.tree.specs.Buffers.{labelCells, visits}
-use Rattle.tree.specs.Preorder.{preorderNumber}
+use Rattle.tree.specs.Preorder.{preorderNumber, size}
 use Rattle.tree.specs.Labels.{labelTable}
 use Rattle.tree.specs.Tour.{tourTable}
 use Rattle.tree.specs.Tables.{own}
 use Rattle.tree.specs.Routes.{nearer}
-use Rattle.tree.proofs.Cells.{label-length, tour-sizes, tour-table-length}
+use Rattle.tree.proofs.Cells.{label-length, label-cell, tour-sizes, tour-table-length}
 use Rattle.tree.proofs.Tours.{tour-length}
 use Rattle.tree.proofs.OwnCells.{number-at}
 
@@ -40,6 +40,12 @@ module _ (s : List ℕ) {label : List ℕ} (mine : label ≡ labelTable s) where
   number-cell v h =
       let same : v ≡ 0 * length s + v = omega arith in
       ap (λ (i : ℕ). getD label i 0) same ∙ label-at (0 * length s + v) ∙ number-at s v h
+
+  -- SIZE
+  pub size-cell : (v : ℕ) → v < length s → getD label (length s + v) 0 ≡ size s v
+  size-cell v h =
+      let same : length s + v ≡ 1 * length s + v = omega arith in
+      ap (λ (l : List ℕ). getD l (length s + v) 0) mine ∙ ap (λ (i : ℕ). getD (labelTable s) i 0) same ∙ label-cell s 1 v (omega arith) h
 
 -- the tour, the first positions, and then rows 0 to log (2n−1)
 pub tour-cells : {s tour : List ℕ} → Tree s → tour ≡ tourTable s

@@ -2,4 +2,5 @@
 pub mod Cells
 pub mod Toward
 pub mod TourCells
+pub mod TourBranches
 pub mod Scanned

@@ -1,18 +1,22 @@
-// The carrier of one pair of an accepted sheet's parts by the label rule and by the tour rule, and the first and last of a list in preorder. The tables
-// are the sheet's own: a call of `routes` has compared them, once for all its pairs. After that each rule takes constant time a pair.
+// The carrier of one pair of an accepted sheet's parts by the label rule and by the tour rule, the branch of a carrier towards a part, and the first and last
+// of a list in preorder. The tables are the sheet's own: a call of `routes` has compared them, once for all its pairs. After that each rule takes constant
+// time a pair, and so does a branch.
 
 mod blocks;
 mod steps;
 
 ghost use mathlib.Core.Path.{_≡_};
+ghost use Prim.Native.Nat.{_<_};
 ghost use lib.ListN.{length};
 ghost use Rattle.bits.specs.Bits.{IsBelow};
+ghost use Rattle.tree.specs.Tree.{Ancestor};
 ghost use Rattle.tree.specs.Labels.{labelTable};
 ghost use Rattle.tree.specs.Tour.{tourTable};
 ghost use Rattle.tree.specs.Tables.{own};
 ghost use Rattle.tree.specs.Routes.{byLabels, byTour};
+ghost use Rattle.tree.specs.Branch.{branchAt};
 ghost use Rattle.tree.specs.Sharing.{firstInPreorder, lastInPreorder};
-ghost use Rattle.tree.specs.Nodes.{Pair, Listed};
+ghost use Rattle.tree.specs.Nodes.{Small, Pair, Listed};
 
 // The carrier of x and y by labels: the part of lesser LEVEL at equal INLABELs, else by steps 1 to 4 of 000.
 pub fn by_labels(parents: &[u16], label: &[u16], x: usize, y: usize) -> usize
@@ -45,6 +49,19 @@ pub fn by_tour(parents: &[u16], label: &[u16], tour: &[u16], x: usize, y: usize)
         return blocks::shallowest(parents, label, tour, j, i);
     }
     blocks::shallowest(parents, label, tour, i, j)
+}
+
+// The branch of c towards x, which c carries: the part directly below c on the way to x, or c where x is c. Before the tour comes back to c, it visits that part.
+pub fn branch(parents: &[u16], label: &[u16], tour: &[u16], c: usize, x: usize) -> usize
+    requires { ⌜ Small (now parents) × (x < length (now parents)) × Ancestor (now parents) c x
+        × (now label ≡ labelTable (now parents)) × (now tour ≡ tourTable (now parents)) ⌝ }
+    ensures { λ r. ⌜ IsBelow (branchAt (own (now (parents .entry))) c x) (length (now (parents .entry))) r ⌝ }
+{
+    if x == c {
+        return c;
+    }
+    let at = blocks::back(parents, label, tour, c, x);
+    tour[at - 1] as usize
 }
 
 // Two of a list's parts.

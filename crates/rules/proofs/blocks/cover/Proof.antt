@@ -1,23 +1,23 @@
--- `rules::blocks::shallowest` meets its contract: the cells read are those of the two blocks and of their nodes.
+-- `rules::blocks::cover` meets its contract: the cells read are those of the two blocks.
 -- Assumes nothing.
 use native.Mathlib.Omega.{arith}
 use Prim.Native.Nat.{_+_, _-_, _*_, _^_, _%_}
-use mathlib.Core.Path.{sym, _∙_}
+use mathlib.Core.Path.{_∙_}
 use borrow.Author.Needs.{needs}
 use Rattle.bits.proofs.Ones.{one-shifted}
 use Rattle.rules.proofs.TourCells.{Blocks, blocks}
-use Rattle.rules.proofs.blocks.shallowest.Statement.{statement}
-use Rattle.rules.proofs.blocks.shallowest.Tie as tie
+use Rattle.rules.proofs.blocks.cover.Statement.{statement}
+use Rattle.rules.proofs.blocks.cover.Tie as tie
 
 -- the two blocks, once the length of each is known; 1 shifted up by k is 2 ^ k
 facts : (c : tie.After-log2)
-    → let a = c .before .before .before .before .args in
+    → let a = c .before .before .before .args in
     let k = c .log2 .result in
     Blocks (a .parents .now) (a .tour .now) (a .i) (a .j) k (a .j + 1 - 1 * 2 ^ k % 2 ^ 64)
 facts c =
-    let p = c .before .before .before .before .pre in
+    let p = c .before .before .before .pre in
     let r = c .log2 .ensures in
-    blocks (p .0) (p .2) (p .3) (p .4) (r .is) (rw (one-shifted 64 (c .log2 .result) (omega arith)))
+    blocks (p .0) (p .1) (p .2) (p .3) (r .is) (rw (one-shifted 64 (c .log2 .result) (omega arith)))
 
 mul-m : tie.Need-mul-m
 mul-m c = search needs
@@ -82,35 +82,18 @@ shared-slice-read-right c = facts (c .before .before) .right .room
 cast-right : tie.Need-cast-right
 cast-right c = let d = facts (c .before .before) in omega arith
 
-mul-nearer : tie.Need-mul-nearer
-mul-nearer c = let d = facts (c .before .before) in omega arith
-
-shared-slice-read-nearer : tie.Need-shared-slice-read-nearer
-shared-slice-read-nearer c = let d = facts (c .before .before .before) in omega arith
-
-cast-nearer : tie.Need-cast-nearer
-cast-nearer c = let d = facts (c .before .before .before) in omega arith
-
-mul-nearer-2 : tie.Need-mul-nearer-2
-mul-nearer-2 c = let d = facts (c .before .before .before) in omega arith
-
-shared-slice-read-nearer-2 : tie.Need-shared-slice-read-nearer-2
-shared-slice-read-nearer-2 c = let d = facts (c .before .before .before .before) in omega arith
-
-cast-nearer-2 : tie.Need-cast-nearer-2
-cast-nearer-2 c = let d = facts (c .before .before .before .before) in omega arith
-
-nearer-requires : tie.Need-nearer-requires
-nearer-requires c κs =
-    let d = facts (c .before .before .before .before) in
-    let p = c .before .before .before .before .before .before .before .before .pre in
-    (record { small = p .0; left = d .left .node; right = d .right .node }, p .1)
-
 returns : tie.Need-returns
-returns c = let r = c .nearer .ensures in record { is = r .is ∙ sym (facts (c .before .before .before .before .before) .answer); below = r .below }
+returns c =
+    let d = facts (c .before .before) in
+    record {
+      left = d .left .is ∙ d .left-is;
+      right = d .right .is ∙ d .right-is;
+      left-inside = d .left .position;
+      right-inside = d .right .position;
+    }
 
-pub shallowest-spec : {M : Type 1} → statement M
-shallowest-spec =
+pub cover-spec : {M : Type 1} → statement M
+cover-spec =
     tie.close
     (tie.spec
     mul-m
@@ -134,11 +117,4 @@ shallowest-spec =
     mul-right
     shared-slice-read-right
     cast-right
-    mul-nearer
-    shared-slice-read-nearer
-    cast-nearer
-    mul-nearer-2
-    shared-slice-read-nearer-2
-    cast-nearer-2
-    nearer-requires
     returns)
