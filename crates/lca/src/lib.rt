@@ -22,7 +22,7 @@ ghost use Rattle.lca.specs.Returned.{numberIn, valueIn, outcomeOf, locat
 ghost use Rattle.lca.specs.Version.{version};
 
 // The version of the interface, as LCA_VERSION in include/lca.h has it.
-const VERSION: u32 = 3;
+const VERSION: u32 = 4;
 
 // The version of the interface that the archive has.
 #[no_mangle]
@@ -81,7 +81,7 @@ pub extern "C" fn lca_compare(
     returned(r, value)
 }
 
-// The carrier of each pair by labels: `routes::pairs_by_labels`.
+// The answer to each pair by labels, its carrier and both branches: `routes::pairs_by_labels`.
 #[no_mangle]
 pub extern "C" fn lca_pairs_by_labels(
     parents: &[u16],

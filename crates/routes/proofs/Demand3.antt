@@ -3,32 +3,34 @@
 -- claim. That there are such runs of whatever is asked is shown in RunsExist.
 -- Assumes nothing.
 use Prim.Native.Nat.{ℕ, _+_, _*_, _%_, _<_}
-use native.Mathlib.Nat.{mul-one}
 use native.Mathlib.Omega.{arith}
 use mathlib.Core.Path.{_≡_, refl, sym, ap, _∙_, subst}
 use mathlib.Core.List.{List, [], _∷_, List·Memᴰ·head, List·Memᴰ·tail}
 use lib.ListN.{length, getD}
-use lib.Seq.{ext-getD}
 use Rattle.tree.specs.declared.Outcome.the-variants.{Accepted}
 use Rattle.tree.specs.declared.Traced.the-variants.{Lifts}
 use Rattle.tree.specs.Tree.{Tree}
 use Rattle.tree.specs.Tests as tests
-use Rattle.tree.specs.Buffers.{trailCells, answerCells}
+use Rattle.tree.specs.Buffers.{trailCells, answerWidth, answerCells}
 use Rattle.tree.specs.Lca.{Lca, lca}
 use Rattle.tree.specs.Sharing.{SameParts, SharedOut, members, firstInPreorder, lastInPreorder}
 use Rattle.tree.specs.Tables.{own}
 use Rattle.tree.specs.Routes.{byLabels, byTour}
-use Rattle.tree.specs.Pairs.{pairAt, pairs, eachPair}
+use Rattle.tree.specs.Branch.{Answer, answerCell, answerBy}
+use Rattle.tree.specs.Nodes.{Pair}
+use Rattle.tree.specs.Pairs.{leftOf, rightOf, pairs, eachAnswer}
 use Rattle.tree.specs.Trail.{trail, byLifts, lifts, trailBuffer, liftCount}
 use Rattle.tree.proofs.Orders.{member-at}
 use Rattle.tree.proofs.Lcas.{lca-found, lca-only, pair-found}
 use Rattle.tree.proofs.Lists.{same-lca, ends-listed, ends-lca, shared-lca}
 use Rattle.tree.proofs.Acceptance.{accepted-tree}
-use Rattle.tree.proofs.ByLabels.{labels-lca}
 use Rattle.tree.proofs.ByLifts.{lifts-lca}
-use Rattle.tree.proofs.Pairs.{each-pair-length, each-pair-cell}
+use Rattle.tree.proofs.Pairs.{each-row-length, answers-same}
 use Rattle.tree.proofs.Claims.{rules-agree, trail-rows}
+use Rattle.routes.specs.declared.Route.the-variants as route
+use Rattle.routes.specs.Answers.{AnswersPair}
 use Rattle.routes.specs.Lends.{Some, Lends}
+use Rattle.routes.proofs.Giving.{pair-answered}
 use Rattle.routes.proofs.Named.{other-some, group-some, carriers-some}
 use Rattle.routes.proofs.Runs.{asked, answers, LabelsRun, TourRun, LiftsRun, ListRun, TrailRun, traced, rowsBefore, rowsAfter, carrierCell}
 use Rattle.routes.proofs.Granted.{pairs-granted, list-granted, trail-granted}
@@ -88,8 +90,8 @@ pub record Agree (s : List ℕ) (runs : Runs s) : Type 0 where
   pub labels-as-tour : answers (runs .labels) ≡ answers (runs .tour)
   pub tour-as-lifts : answers (runs .tour) ≡ answers (runs .lifts)
   pub in-every-cell : length (answers (runs .labels)) ≡ answerCells (length (runs .question))
-  -- "and each pair's carrier is demand 2's"
-  pub each-pair : (i : ℕ) → i < pairs (runs .question) → Lca s (pairAt (runs .question) i) (getD (answers (runs .labels)) i 0)
+  -- "and each pair's carrier is demand 2's"; "in demand 3 each pair's branches are the ones said here" (2026-03)
+  pub each-pair : (i : ℕ) → i < pairs (runs .question) → AnswersPair s (runs .question) (answers (runs .labels)) i
   -- the list's carrier, which "is that of its first and last in preorder"
   pub of-list : Lca s (runs .listed) (getD (answers (runs .list)) 0 0)
   pub first-and-last : Lca s (firstInPreorder s (runs .listed) ∷ lastInPreorder s (runs .listed) ∷ []) (getD (answers (runs .list)) 0 0)
@@ -106,16 +108,21 @@ pub record Agree (s : List ℕ) (runs : Runs s) : Type 0 where
 
 -- ---- the proof
 
--- the rules give equal answers to a question of parts
-same-answers : {s question : List ℕ} (f g : ℕ → ℕ → ℕ) → Some s question
-    → ((x y : ℕ) → x < length s → y < length s → f x y ≡ g x y) → eachPair f question ≡ eachPair g question
-same-answers {s} {question} f g some same =
-    ext-getD 0 _ _ (each-pair-length f question ∙ sym (each-pair-length g question))
-    (λ i h.
-    let inside : i < pairs question = omega (arith, each-pair-length f question) in
-    each-pair-cell f question i inside
-    ∙ same _ _ (some .parts _ (member-at question (2 * i) (omega arith))) (some .parts _ (member-at question (2 * i + 1) (omega arith)))
-    ∙ sym (each-pair-cell g question i inside))
+-- pair i of a question of parts
+pair-of : {s : List ℕ} → tests.Accepted s → (question : List ℕ) → Some s question → (i : ℕ) → i < pairs question → Pair s (leftOf question i) (rightOf question i)
+pair-of {s} accepts question some i h =
+    let (tree, small) = accepted-tree s accepts in
+    record {
+      small = record { tree = tree; most = small };
+      left = some .parts _ (member-at question (2 * i) (omega arith));
+      right = some .parts _ (member-at question (2 * i + 1) (omega arith));
+    }
+
+-- rules that answer two parts alike answer a question of parts alike
+same-answers : {s : List ℕ} → tests.Accepted s → (f g : ℕ → ℕ → Answer) (question : List ℕ) → Some s question
+    → ((x y : ℕ) → x < length s → y < length s → f x y ≡ g x y) → eachAnswer f question ≡ eachAnswer g question
+same-answers accepts f g question some same =
+    answers-same f g question (λ i h. let pair = pair-of accepts question some i h in same _ _ (pair .left) (pair .right))
 
 module _ (s : List ℕ) (accepts : tests.Accepted s) (runs : Runs s) where
   tree : Tree s
@@ -186,15 +193,17 @@ module _ (s : List ℕ) (accepts : tests.Accepted s) (runs : Runs s) where
         groups-accepted = λ g h. list-granted s accepts (grouped g h) (runs .each-lent g h) (runs .each-group g h .kept) .0;
         of-groups-accepted = groups-yes;
         labels-as-tour =
-            labels ∙ same-answers (byLabels (own s)) (byTour (own s)) (runs .some-pairs) (λ x y hx hy. rules x y hx hy .0 ∙ sym (rules x y hx hy .1)) ∙ sym tour;
+            labels
+            ∙ same-answers accepts (answerBy byLabels (own s)) (answerBy byTour (own s)) (runs .question) (runs .some-pairs)
+            (λ x y hx hy. rules x y hx hy .0 ∙ sym (rules x y hx hy .1))
+            ∙ sym tour;
         tour-as-lifts =
-            tour ∙ same-answers (byTour (own s)) (byLifts (own s)) (runs .some-pairs) (λ x y hx hy. rules x y hx hy .1 ∙ sym (rules x y hx hy .2)) ∙ sym lifted;
-        in-every-cell = ap length labels ∙ each-pair-length (byLabels (own s)) (runs .question) ∙ sym (mul-one (pairs (runs .question)));
-        each-pair = λ i h.
-            let hx = runs .some-pairs .parts _ (member-at (runs .question) (2 * i) (omega arith)) in
-            let hy = runs .some-pairs .parts _ (member-at (runs .question) (2 * i + 1) (omega arith)) in
-            let cell = ap (λ (l : List ℕ). getD l i 0) labels ∙ each-pair-cell (byLabels (own s)) (runs .question) i h in
-            subst (Lca s _) (sym cell) (labels-lca tree _ _ hx hy);
+            tour
+            ∙ same-answers accepts (answerBy byTour (own s)) (answerBy byLifts (own s)) (runs .question) (runs .some-pairs)
+            (λ x y hx hy. rules x y hx hy .1 ∙ sym (rules x y hx hy .2))
+            ∙ sym lifted;
+        in-every-cell = ap length labels ∙ each-row-length (λ x y. answerCell (answerBy byLabels (own s) x y)) answerWidth (runs .question);
+        each-pair = λ i h. pair-answered route.Labels (runs .question) (pair-of accepts (runs .question) (runs .some-pairs) i h) h labels;
         of-list = subst (Lca s _) (sym is) found;
         first-and-last = subst (Lca s _) (sym is) ends-carrier-is;
         of-other =

@@ -2,8 +2,8 @@
 -- Assumes nothing.
 use Prim.Native.Nat.{ℕ, _<_}
 use native.Mathlib.Omega.{arith}
-use mathlib.Core.Path.{_≡_, sym, ap, _∙_, subst}
-use mathlib.Core.List.{List, [], _∷_}
+use mathlib.Core.Path.{_≡_, refl, sym, ap, _∙_, subst}
+use mathlib.Core.List.{List, [], _∷_, List·Memᴰ·head, List·Memᴰ·tail}
 use lib.ListN.{length, getD, set, length-set}
 use lib.Seq.{ext-getD, getD-set-same}
 use Rattle.tree.specs.declared.Refusal.{Refusal}
@@ -11,29 +11,31 @@ use Rattle.tree.specs.declared.Outcome.{Outcome}
 use Rattle.tree.specs.declared.Outcome.the-variants.{Accepted, Refused}
 use Rattle.tree.specs.declared.Traced.the-variants as traced
 use Rattle.tree.specs.Verdict.{accepted, refused, numberOf, placeOf, verdictOf}
-use Rattle.tree.specs.Tree.{Tree}
+use Rattle.tree.specs.Tree.{Ancestor, Tree}
 use Rattle.tree.specs.Lca.{Lca, lca}
 use Rattle.tree.specs.Tables.{Lent, own}
 use Rattle.tree.specs.Routes.{byTour}
 use Rattle.tree.specs.Sharing.{firstInPreorder, lastInPreorder}
 use Rattle.tree.specs.Trail.{trail, byLifts, lifts, trailBuffer}
 use Rattle.tree.specs.Nodes.{Pair, Listed}
-use Rattle.tree.specs.Pairs.{leftOf, rightOf, eachPair}
+use Rattle.tree.specs.Branch.{IsAnswer, answerBy}
+use Rattle.tree.specs.Pairs.{leftOf, rightOf, pairs, eachAnswer, answerAt}
 use Rattle.tree.proofs.Verdicts.{not-both}
 use Rattle.tree.proofs.Lcas.{lca-found, lca-only}
 use Rattle.tree.proofs.Lists.{ends-listed, ends-lca}
 use Rattle.tree.proofs.Answers.{filled-own, filled-kept}
 use Rattle.tree.proofs.Questions.{question-parts}
 use Rattle.tree.proofs.Stages.{stage-no, stage-yes}
-use Rattle.tree.proofs.Pairs.{question-pair, each-pair-cell}
+use Rattle.tree.proofs.Pairs.{question-pair, answer-at}
 use Rattle.tree.proofs.Owning.{owned-is}
 use Rattle.tree.proofs.ByLabels.{labels-lca}
 use Rattle.tree.proofs.ByTour.{tour-lca}
 use Rattle.tree.proofs.ByLifts.{lifts-lca, lifts-count}
+use Rattle.tree.proofs.Branches.{rule-answer}
 use Rattle.routes.specs.declared.Route.{Route}
 use Rattle.routes.specs.declared.Route.the-variants.{Labels, Tour, Lifts}
 use Rattle.routes.specs.Rules.{ruleOf}
-use Rattle.routes.specs.Answers.{Admitted, Asked, pairsUnfit, pairsVerdict, PairsGive, trailUnfit, trailVerdict, TrailGives, listUnfit, listVerdict, ListGives}
+use Rattle.routes.specs.Answers.{Admitted, Asked, pairsUnfit, pairsVerdict, AnswersPair, PairsGive, trailUnfit, trailVerdict, TrailGives, listUnfit, listVerdict, ListGives}
 use Rattle.routes.proofs.Asking.{answerable}
 
 -- ---- a question of pairs
@@ -44,6 +46,22 @@ rule-lca Labels t = labels-lca t
 rule-lca Tour t = tour-lca t
 rule-lca Lifts t = lifts-lca t
 
+-- which carries both
+pub rule-carries : (route : Route) {s : List ℕ} {x y c : ℕ} → Pair s x y → c ≡ ruleOf route (own s) x y → Ancestor s c x × Ancestor s c y
+rule-carries route {s} {x} {y} pair e =
+    let l = rule-lca route (pair .small .tree) x y (pair .left) (pair .right) in
+    rw e (l .common x (List·Memᴰ·head refl), l .common y (List·Memᴰ·tail (List·Memᴰ·head refl)))
+
+-- so what a route answers to the pairs of a question is the answer to each
+pub pair-answered : (route : Route) {s cells : List ℕ} (question : List ℕ) {i : ℕ} → Pair s (leftOf question i) (rightOf question i) → i < pairs question
+    → cells ≡ eachAnswer (answerBy (ruleOf route) (own s)) question → AnswersPair s question cells i
+pair-answered route {s} {cells} question {i} pair h stored =
+    let t = pair .small .tree in
+    let is : answerAt cells i ≡ answerBy (ruleOf route) (own s) (leftOf question i) (rightOf question i) =
+    ap (λ (l : List ℕ). answerAt l i) stored ∙ answer-at (answerBy (ruleOf route) (own s)) question i h in
+    subst (IsAnswer s (leftOf question i) (rightOf question i)) (sym is)
+    (rule-answer t (ruleOf route) (pair .left) (pair .right) (rule-lca route t _ _ (pair .left) (pair .right)))
+
 module _ (route : Route) (a : Asked) {r : Outcome} {after : List ℕ} (given : Admitted (a .lent) (a .work) (a .question) (pairsUnfit a) r after) where
   -- a refused call leaves the answer as it was
   pub pairs-refused : {why : Refusal} → r ≡ Refused why → PairsGive (ruleOf route) a r after (a .answer)
@@ -52,26 +70,20 @@ module _ (route : Route) (a : Asked) {r : Outcome} {after : List ℕ} (given : A
       record {
         answered = given;
         answer = filled-kept (pairsVerdict a) _ _ _ _ no;
-        carriers = λ yes. absurd (not-both yes no);
+        answers = λ yes. absurd (not-both yes no);
       }
 
   -- an accepted one gives each pair's
-  pub pairs-answered : {answer′ : List ℕ} → r ≡ Accepted → answer′ ≡ eachPair (ruleOf route (own (a .lent .parents))) (a .question)
+  pub pairs-answered : {answer′ : List ℕ} → r ≡ Accepted → answer′ ≡ eachAnswer (answerBy (ruleOf route) (own (a .lent .parents))) (a .question)
       → PairsGive (ruleOf route) a r after answer′
   pairs-answered {answer′} e stored =
       let yes : pairsVerdict a ≡ accepted = stage-yes given e in
       let ready = answerable (a .lent) (a .work) (a .question) (pairsUnfit a) yes in
       let same = owned-is (a .lent) (pairsUnfit a) (ready .owned) in
-      let s = a .lent .parents in
       record {
         answered = given;
-        answer = stored ∙ ap (λ (t : Lent). eachPair (ruleOf route t) (a .question)) (sym same) ∙ filled-own (pairsVerdict a) _ _ yes;
-        carriers = λ _ i h.
-            let pair = question-pair (ready .listed) i (omega arith) in
-            let is : getD answer′ i 0 ≡ ruleOf route (own s) (leftOf (a .question) i) (rightOf (a .question) i) =
-            ap (λ (l : List ℕ). getD l i 0) stored ∙ each-pair-cell (ruleOf route (own s)) (a .question) i h in
-            subst (Lca s (leftOf (a .question) i ∷ rightOf (a .question) i ∷ [])) (sym is)
-            (rule-lca route (pair .small .tree) _ _ (pair .left) (pair .right));
+        answer = stored ∙ ap (λ (t : Lent). eachAnswer (answerBy (ruleOf route) t) (a .question)) (sym same) ∙ filled-own (pairsVerdict a) _ _ yes;
+        answers = λ _ i h. pair-answered route (a .question) (question-pair (ready .listed) i (omega arith)) h stored;
       }
 
 -- ---- a trail

@@ -15,7 +15,8 @@ use Rattle.tree.specs.Buffers.{workCells, trailCells, answerCells}
 use Rattle.tree.specs.Lca.{lca}
 use Rattle.tree.specs.Tables.{Lent, own}
 use Rattle.tree.specs.Lending.{askedVerdict}
-use Rattle.tree.specs.Pairs.{eachPair}
+use Rattle.tree.specs.Branch.{answerBy}
+use Rattle.tree.specs.Pairs.{eachAnswer}
 use Rattle.tree.specs.Trail.{trail, byLifts, lifts, trailBuffer}
 use Rattle.tree.proofs.Verdicts.{not-both, accepted-case}
 use Rattle.tree.proofs.Answers.{filled-own}
@@ -61,7 +62,7 @@ module _ (s : List ℕ) (accepts : tests.Accepted s) where
 
   -- pairs by a rule
   pub pairs-granted : {rule : Lent → ℕ → ℕ → ℕ} {question : List ℕ} {a : Asked} {r : Outcome} {work′ answer′ : List ℕ} → Some s question → length question % 2 ≡ 0
-      → Lends s question (answerCells (length question)) a → PairsGive rule a r work′ answer′ → (r ≡ Accepted) × (answer′ ≡ eachPair (rule (own s)) question)
+      → Lends s question (answerCells (length question)) a → PairsGive rule a r work′ answer′ → (r ≡ Accepted) × (answer′ ≡ eachAnswer (answerBy rule (own s)) question)
   pairs-granted {rule} {question} {a} {r} {work′} {answer′} some even l given =
       let g = subst (λ (b : Asked). PairsGive rule b r work′ answer′) (lends-is a l) given in
       let yes = granted (a .work) question _ (l .work-fits) (pairs-lent-fit l even) some in

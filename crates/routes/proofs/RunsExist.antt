@@ -25,7 +25,8 @@ use Rattle.tree.specs.Lifts.{liftTable}
 use Rattle.tree.specs.Preorder.{preorder}
 use Rattle.tree.specs.Tables.{own}
 use Rattle.tree.specs.Routes.{byLabels, byTour}
-use Rattle.tree.specs.Pairs.{eachPair}
+use Rattle.tree.specs.Branch.{answerBy}
+use Rattle.tree.specs.Pairs.{eachAnswer}
 use Rattle.tree.specs.Trail.{trail, byLifts, lifts, trailBuffer}
 use Rattle.tree.proofs.Rows.{length-tabulate, cell-tabulate}
 use Rattle.tree.proofs.Lcas.{lca-found, each-of-two}
@@ -118,7 +119,7 @@ module _ (s : List ℕ) (accepts : tests.Accepted s) where
 
   -- pairs by a route
   pairs-kept : (route : Route) (question : List ℕ) → Some s question → length question % 2 ≡ 0
-      → PairsGive (ruleOf route) (lent s question (answerCells (length question))) Accepted (clear s) (eachPair (ruleOf route (own s)) question)
+      → PairsGive (ruleOf route) (lent s question (answerCells (length question))) Accepted (clear s) (eachAnswer (answerBy (ruleOf route) (own s)) question)
   pairs-kept route question some even =
       let a = lent s question (answerCells (length question)) in
       pairs-answered route a (admitted question (pairsUnfit a) (pairs-lent-fit (lends s question (answerCells (length question))) even) some) refl refl
@@ -188,9 +189,9 @@ runs-exist s accepts question asked parts even listed other named parts-listed s
         question = question;
         some-pairs = some-pairs;
         whole-pairs = even;
-        labels = run-of s question pair-cells (eachPair (byLabels (own s)) question) (pairs-kept s accepts Labels question some-pairs even);
-        tour = run-of s question pair-cells (eachPair (byTour (own s)) question) (pairs-kept s accepts Tour question some-pairs even);
-        lifts = run-of s question pair-cells (eachPair (byLifts (own s)) question) (pairs-kept s accepts Lifts question some-pairs even);
+        labels = run-of s question pair-cells (eachAnswer (answerBy byLabels (own s)) question) (pairs-kept s accepts Labels question some-pairs even);
+        tour = run-of s question pair-cells (eachAnswer (answerBy byTour (own s)) question) (pairs-kept s accepts Tour question some-pairs even);
+        lifts = run-of s question pair-cells (eachAnswer (answerBy byLifts (own s)) question) (pairs-kept s accepts Lifts question some-pairs even);
         labels-lent = lends s question pair-cells;
         tour-lent = lends s question pair-cells;
         lifts-lent = lends s question pair-cells;

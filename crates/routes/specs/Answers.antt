@@ -15,7 +15,8 @@ use Rattle.tree.specs.Tables.{Lent, lentBy}
 use Rattle.tree.specs.Trail.{trail, byLifts, lifts, trailBuffer, liftCount}
 use Rattle.tree.specs.Lending.{unfitOf, askedVerdict}
 use Rattle.tree.specs.Answered.{Answered}
-use Rattle.tree.specs.Pairs.{leftOf, rightOf, pairAt, pairs, eachPair}
+use Rattle.tree.specs.Branch.{IsAnswer, answerBy}
+use Rattle.tree.specs.Pairs.{leftOf, rightOf, pairAt, pairs, eachAnswer, answerAt}
 
 -- the answer to tests 1 to 11, and work afterwards; `further` is the lowest of the question, the answer and the trail that does not fit, or 0
 abbrev pub Admitted : Lent → List ℕ → List ℕ → ℕ → Outcome → List ℕ → Type 0
@@ -41,11 +42,15 @@ pairsUnfit a = firstUnfit (pairsFits (length (a .question)) (length (a .answer))
 abbrev pub pairsVerdict : Asked → Verdict
 pairsVerdict a = askedVerdict (a .lent) (a .work) (a .question) (pairsUnfit a)
 
--- an accepted call fills the answer with the rule's answer to each pair, and each is the pair's carrier
+-- pair i's cells are its answer: its carrier, and the branches towards x and y
+abbrev pub AnswersPair : List ℕ → List ℕ → List ℕ → ℕ → Type 0
+AnswersPair s question cells i = IsAnswer s (leftOf question i) (rightOf question i) (answerAt cells i)
+
+-- an accepted call fills the answer with what the route answers to each pair, by its rule, and each is the pair's answer
 pub record PairsGive (rule : Lent → ℕ → ℕ → ℕ) (a : Asked) (r : Outcome) (work′ answer′ : List ℕ) : Type 0 where
   pub answered : Admitted (a .lent) (a .work) (a .question) (pairsUnfit a) r work′
-  pub answer : answer′ ≡ filled (pairsVerdict a) (eachPair (rule (a .lent)) (a .question)) (a .answer)
-  pub carriers : pairsVerdict a ≡ accepted → (i : ℕ) → i < pairs (a .question) → Lca (a .lent .parents) (pairAt (a .question) i) (getD answer′ i 0)
+  pub answer : answer′ ≡ filled (pairsVerdict a) (eachAnswer (answerBy rule (a .lent)) (a .question)) (a .answer)
+  pub answers : pairsVerdict a ≡ accepted → (i : ℕ) → i < pairs (a .question) → AnswersPair (a .lent .parents) (a .question) answer′ i
 
 -- ---- the trail of a pair
 

@@ -1,12 +1,13 @@
 // Answering a question that has passed its tests: each buffer fits, and the tables are the sheet's own.
 
+use crate::ANSWER_CELLS;
 use crate::Route;
 ghost use mathlib.Core.Path.{_≡_};
 ghost use mathlib.Core.List.{[], _∷_};
-ghost use Prim.Native.Nat.{_*_, _<_};
+ghost use Prim.Native.Nat.{_+_, _<_};
 ghost use lib.ListN.{length, getD};
 ghost use Rattle.bits.specs.Bits.{IsBelow};
-ghost use Rattle.tree.specs.Buffers.{trailCells};
+ghost use Rattle.tree.specs.Buffers.{trailCells, answerCells};
 ghost use Rattle.tree.specs.Labels.{labelTable};
 ghost use Rattle.tree.specs.Tour.{tourTable};
 ghost use Rattle.tree.specs.Lifts.{liftTable};
@@ -14,13 +15,14 @@ ghost use Rattle.tree.specs.Lca.{lca};
 ghost use Rattle.tree.specs.Tables.{own};
 ghost use Rattle.tree.specs.Trail.{trail, byLifts, lifts, trailBuffer};
 ghost use Rattle.tree.specs.Nodes.{Pair, Listed};
-ghost use Rattle.tree.specs.Pairs.{leftOf, rightOf, eachPair};
-ghost use Rattle.routes.specs.Rules.{ruleOf};
+ghost use Rattle.tree.specs.Branch.{answerBy};
+ghost use Rattle.tree.specs.Pairs.{leftOf, rightOf, eachAnswer};
+ghost use Rattle.routes.specs.Rules.{ruleOf, storedAnswer};
 
 // No cell.
 const NONE: u16 = 65535;
 
-// Stores the carrier of each pair.
+// Stores the answer to each pair: its carrier, and the branches towards x and y.
 pub(crate) fn pairs(
     route: Route,
     parents: &[u16],
@@ -30,18 +32,52 @@ pub(crate) fn pairs(
     question: &[u16],
     answer: &mut [u16],
 )
-    requires { ⌜ Listed (now parents) (now question) × (length (now question) ≡ 2 * length (now answer))
+    requires { ⌜ Listed (now parents) (now question) × (length (now answer) ≡ answerCells (length (now question)))
         × (now label ≡ labelTable (now parents)) × (now tour ≡ tourTable (now parents)) × (now lift ≡ liftTable (now parents)) ⌝ }
-    ensures { λ _. ⌜ now (answer .exit) ≡ eachPair (ruleOf route (own (now (parents .entry)))) (now (question .entry)) ⌝ }
+    ensures { λ _. ⌜ now (answer .exit) ≡ eachAnswer (answerBy (ruleOf route) (own (now (parents .entry)))) (now (question .entry)) ⌝ }
 {
     let mut i = 0;
-    while i < answer.len() {
+    while i < question.len() / 2 {
         let at = 2 * i;
         let x = node(question, at);
         let y = node(question, at + 1);
-        answer[i] = carrier(route, parents, label, tour, lift, x, y) as u16;
+        pair(
+            route,
+            parents,
+            label,
+            tour,
+            lift,
+            x,
+            y,
+            i * ANSWER_CELLS,
+            answer,
+        );
         i += 1;
     }
+}
+
+// Stores the answer to one pair, in the cells from `at` on.
+fn pair(
+    route: Route,
+    parents: &[u16],
+    label: &[u16],
+    tour: &[u16],
+    lift: &[u16],
+    x: usize,
+    y: usize,
+    at: usize,
+    answer: &mut [u16],
+)
+    requires { ⌜ Pair (now parents) x y × (at + 2 < length (now answer))
+        × (now label ≡ labelTable (now parents)) × (now tour ≡ tourTable (now parents)) × (now lift ≡ liftTable (now parents)) ⌝ }
+    ensures { λ _. ⌜ now (answer .exit) ≡ storedAnswer (now (answer .entry)) at (answerBy (ruleOf route) (own (now (parents .entry))) x y) ⌝ }
+{
+    let c = carrier(route, parents, label, tour, lift, x, y);
+    let left = rules::branch(parents, label, tour, c, x);
+    let right = rules::branch(parents, label, tour, c, y);
+    answer[at] = c as u16;
+    answer[at + 1] = left as u16;
+    answer[at + 2] = right as u16;
 }
 
 // The part that stands at a position of the question.

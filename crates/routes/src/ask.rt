@@ -1,5 +1,6 @@
 // What a question is tested for before it is answered.
 
+use crate::ANSWER_CELLS;
 use tree::Outcome;
 use tree::Refusal;
 ghost use mathlib.Core.Path.{_≡_};
@@ -60,7 +61,10 @@ pub(crate) fn pairs_unfit(question: usize, answer: usize) -> usize
     if question % 2 != 0 {
         return QUESTION;
     }
-    if answer != question / 2 {
+    if answer % ANSWER_CELLS != 0 {
+        return ANSWER;
+    }
+    if answer / ANSWER_CELLS != question / 2 {
         return ANSWER;
     }
     0

@@ -1,5 +1,5 @@
-// The carriers of pairs by each of three routes, the trail of one pair, and the carrier of a list. Each call tests its own input (tests 1 to 11 of document
-// 01's table) and compares the lent tables with the sheet once for all its questions. `work` has four cells for each part; it is all zero
+// The carriers of pairs by each of three routes, with their branches, the trail of one pair, and the carrier of a list. Each call tests its own input (tests 1
+// to 11 of document 01's table) and compares the lent tables with the sheet once for all its questions. `work` has four cells for each part; it is all zero
 // afterwards, or as it was after refusals 1 to 3. A refused call alters no other buffer.
 
 mod answer;
@@ -19,7 +19,10 @@ pub enum Route {
     Lifts,
 }
 
-// The carrier of each pair by labels: `question` lists the pairs, `answer` has a cell for each.
+// The cells of a pair's answer: its carrier, and the branch from there towards x and towards y.
+pub const ANSWER_CELLS: usize = 3;
+
+// The answer to each pair by labels: `question` lists the pairs, `answer` has three cells for each.
 pub fn pairs_by_labels(
     parents: &[u16],
     label: &[u16],

@@ -1,6 +1,5 @@
--- `routes::pairs` meets its contract: the tests decide, and where they accept, each pair's carrier is stored.
+-- `routes::pairs` meets its contract: the tests decide, and where they accept, each pair's answer is stored.
 -- Assumes nothing.
-use native.Mathlib.Omega.{arith}
 use borrow.Author.Needs.{needs}
 use mathlib.Core.Path.{sym, _∙_}
 use Rattle.tree.proofs.Fits.{pairs-fit}
@@ -47,8 +46,8 @@ pairs-requires c κs =
     let c7 = c5 .before .before in
     let s = start c7 in
     let ready = admitted-answerable (asked s) _ (c5 .admit .ensures) (c .before .enum-told .given .1) in
-    let (even, cells) = pairs-fit (length (s .args .question .now)) (length (s .args .answer .now)) (sym (c7 .pairs-unfit .ensures) ∙ ready .owned .fits) in
-    (ready .listed, omega arith, ready .owned .label, ready .owned .tour, ready .owned .lift)
+    let (_, cells) = pairs-fit (length (s .args .question .now)) (length (s .args .answer .now)) (sym (c7 .pairs-unfit .ensures) ∙ ready .owned .fits) in
+    (ready .listed, cells, ready .owned .label, ready .owned .tour, ready .owned .lift)
 
 same-length-2 : tie.Need-same-length-2
 same-length-2 c = search needs
