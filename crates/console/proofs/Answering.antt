@@ -1,8 +1,9 @@
--- What is printed of a question: where the tables are the sheet's own and the buffers fit, the question alone decides, and the call gives its carrier
--- and its lifts.
+-- What is printed of a question: where the tables are the sheet's own and the buffers fit, the question alone decides, and the calls give its carrier,
+-- its branches and its lifts.
 -- Assumes nothing.
 use Prim.Native.Nat.{ℕ, _<_}
-use mathlib.Core.Path.{_≡_, refl, sym, ap, _∙_}
+use native.Mathlib.Omega.{arith}
+use mathlib.Core.Path.{_≡_, refl, sym, ap, ap₂, _∙_}
 use mathlib.Core.List.{List, [], _∷_}
 use lib.ListN.{length, getD}
 use Rattle.tree.specs.declared.Refusal.{Refusal}
@@ -12,20 +13,20 @@ use Rattle.tree.specs.declared.Traced.{Traced}
 use Rattle.tree.specs.declared.Traced.the-variants as traced
 use Rattle.tree.specs.Verdict.{Verdict, accepted, refused, verdictOf, told, liftsOf}
 use Rattle.tree.specs.Tests.{verdict, limit, questionTests}
-use Rattle.tree.specs.Buffers.{trailCells}
+use Rattle.tree.specs.Buffers.{answerWidth, trailCells}
 use Rattle.tree.specs.Lca.{Lca, lca}
 use Rattle.tree.specs.Tables.{Lent}
 use Rattle.tree.specs.Trail.{liftCount}
 use Rattle.tree.specs.Lending.{askedVerdict}
-use Rattle.tree.proofs.Fits.{trail-fitting, list-fitting}
+use Rattle.tree.proofs.Fits.{pairs-fitting, trail-fitting, list-fitting}
 use Rattle.tree.proofs.Questions.{question-parts, question-accepted}
-use Rattle.tree.proofs.Claims.{one-carrier}
+use Rattle.tree.proofs.Claims.{one-carrier, one-answer}
 use Rattle.tree.proofs.Owning.{question-decides}
-use Rattle.routes.specs.Answers.{Asked, TrailGives, ListGives}
+use Rattle.routes.specs.Answers.{Asked, PairsGive, TrailGives, ListGives}
 use Rattle.lines.specs.Forms.{pair, many}
 use Rattle.console.specs.Print.{pairLine, manyLine, given}
 use Rattle.console.specs.Run.{answer}
-use Rattle.console.specs.Gives.{Stands}
+use Rattle.console.specs.Gives.{Stands, Found}
 use Rattle.console.proofs.Carriers.{carrier-small}
 
 -- a verdict that refuses prints its line, whatever would be printed else
@@ -58,38 +59,49 @@ module _ {t : Lent} {work : List ℕ} (stands : Stands t work) where
         one-carrier (t .parents) (stands .accepts) question some (question-parts (t .parents) question inside) .1 c l,
       )
 
-  -- ---- a pair
+  -- ---- a pair by a route
+
+  module _ {rule : Lent → ℕ → ℕ → ℕ} {x y : ℕ} {cells work′ cells′ : List ℕ} {r : Outcome}
+      (g : PairsGive rule (lending t work (x ∷ y ∷ []) cells) r work′ cells′) (three : length cells ≡ answerWidth) where
+    -- its verdict is that of its two numbers
+    pair-decides : verdictOf r ≡ verdict (questionTests (t .parents) 0 (x ∷ y ∷ []))
+    pair-decides = g .answered .outcome ∙ decides (x ∷ y ∷ []) _ (pairs-fitting 2 (length cells) refl three)
+
+    -- refused
+    pub pair-refused : {why : Refusal} → r ≡ outcome.Refused why → given (verdictOf r) [] ≡ answer (t .parents) (pair x y)
+    unfolding answer
+    pair-refused e = given-refused _ (ap verdictOf e) pair-decides
+
+    -- answered: its carrier and both branches are found
+    pub pair-found : r ≡ outcome.Accepted → Found (t .parents) x y (getD cells′ 0 0) (getD cells′ 1 0) (getD cells′ 2 0)
+    pair-found e =
+        let yes = sym pair-decides ∙ ap verdictOf e in
+        let (_, inside) = question-accepted (t .parents) 0 (x ∷ y ∷ []) yes in
+        let one = one-answer (t .parents) (stands .accepts) x y (inside 0 (omega arith)) (inside 1 (omega arith)) in
+        record { yes = yes; is = one .1 _ (g .answers (sym (g .answered .outcome) ∙ ap verdictOf e) 0 (omega arith)) }
+
+  -- ---- the trail of a pair
 
   module _ {x y : ℕ} {cells rows work′ cells′ rows′ : List ℕ} {r : Traced} (g : TrailGives (lending t work (x ∷ y ∷ []) cells) rows r work′ cells′ rows′)
       (one : length cells ≡ 1) (whole : length rows ≡ trailCells) where
     -- its verdict is that of its two numbers
-    pair-decides : verdictOf (told r) ≡ verdict (questionTests (t .parents) 0 (x ∷ y ∷ []))
-    pair-decides =
+    trail-decides : verdictOf (told r) ≡ verdict (questionTests (t .parents) 0 (x ∷ y ∷ []))
+    trail-decides =
         g .answered .outcome ∙ decides (x ∷ y ∷ []) _ (trail-fitting 2 (length cells) (length rows) refl one whole)
 
     -- refused
-    pub pair-refused : {why : Refusal} → r ≡ traced.Refused why → given (verdictOf (told r)) [] ≡ answer (t .parents) (pair x y)
+    pub trail-refused : {why : Refusal} → r ≡ traced.Refused why → given (verdictOf (told r)) [] ≡ answer (t .parents) (pair x y)
     unfolding answer
-    pair-refused e = given-refused _ (ap (λ (u : Traced). verdictOf (told u)) e) pair-decides
+    trail-refused e = given-refused _ (ap (λ (u : Traced). verdictOf (told u)) e) trail-decides
 
-    module _ {lifts : ℕ} (e : r ≡ traced.Lifts lifts) where
-      -- it is accepted, and its carrier is known
-      traced-yes : verdictOf (told r) ≡ accepted
-      traced-yes = ap (λ (u : Traced). verdictOf (told u)) e
-
-      pair-carrier : (getD cells′ 0 0 < limit) × (getD cells′ 0 0 ≡ lca (t .parents) (x ∷ y ∷ []))
-      pair-carrier = carrier-is _ _ (sym pair-decides ∙ traced-yes) (g .carrier (sym (g .answered .outcome) ∙ traced-yes))
-
-      -- which is small
-      pub pair-small : getD cells′ 0 0 < limit
-      pair-small = pair-carrier .0
-
-      -- answered
-      pub pair-answered : pairLine x y (getD cells′ 0 0) lifts ≡ answer (t .parents) (pair x y)
-      unfolding answer
-      pair-answered =
-          let count : lifts ≡ liftCount (t .parents) x y = ap liftsOf (sym e) ∙ g .ones (sym (g .answered .outcome) ∙ traced-yes) in
-          rw (pair-carrier .1, count) (given-accepted _ traced-yes pair-decides)
+    -- traced: with the carrier and the branches that were found, its line is known
+    pub pair-answered : {lifts carrier left right : ℕ} → r ≡ traced.Lifts lifts → Found (t .parents) x y carrier left right
+        → pairLine x y (record { carrier = carrier; left = left; right = right }) lifts ≡ answer (t .parents) (pair x y)
+    unfolding answer
+    pair-answered {lifts} e found =
+        let yes : verdictOf (told r) ≡ accepted = ap (λ (u : Traced). verdictOf (told u)) e in
+        let count : lifts ≡ liftCount (t .parents) x y = ap liftsOf (sym e) ∙ g .ones (sym (g .answered .outcome) ∙ yes) in
+        ap₂ (pairLine x y) (found .is) count ∙ given-accepted _ yes trail-decides
 
   -- ---- a list
 

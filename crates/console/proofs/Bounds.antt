@@ -85,23 +85,24 @@ query-is (part v p) q e = absurd (Option·none-ne-some q e)
 query-is (asked p) q e = ap asked (Option·some-inj .0 e)
 
 -- a question that was read, and its answer
-question-length : (s : List ℕ) → Accepted s → (b : List ℕ) (q : Query) → bind (read b) query ≡ some q → length (answer s q) ≤ perByte * suc (length b)
-question-length s a b q e =
+question-length : (s : List ℕ) → Accepted s → length s ≤ most → (b : List ℕ) (q : Query) → bind (read b) query ≡ some q
+    → length (answer s q) ≤ perByte * suc (length b)
+question-length s a few b q e =
     first-read (read b) query e λ f p r.
     let (is, legal) = rw (query-is f q r) at (read-exactly b f .0 p) in
-    rw is (answer-length s a q legal)
+    rw is (answer-length s a few q legal)
 
 -- the answers to all questions, and the last refusal. A line's number grows by one with each line, which has at least its LF
-questions-length : (s : List ℕ) → Accepted s → (number : ℕ) (ls : Lines) → Short (number + byteCount ls)
+questions-length : (s : List ℕ) → Accepted s → length s ≤ most → (number : ℕ) (ls : Lines) → Short (number + byteCount ls)
     → length (questions s number ls) ≤ perByte * byteCount ls + 27
 unfolding questions Option·elim byteCount
-questions-length s a number (tail b) h = let last = leftover-length number b (omega arith) in omega arith
-questions-length s a number (line b rest) h = by-question (bind (read b) query) refl (questions-length s a (suc number) rest (omega arith))
+questions-length s a few number (tail b) h = let last = leftover-length number b (omega arith) in omega arith
+questions-length s a few number (line b rest) h = by-question (bind (read b) query) refl (questions-length s a few (suc number) rest (omega arith))
   where
     by-question : (o : Option Query) → bind (read b) query ≡ o → length (questions s (suc number) rest) ≤ perByte * byteCount rest + 27
         → length (Option·elim o (illegible number) (λ q. answer s q ++ questions s (suc number) rest)) ≤ perByte * suc (length b + byteCount rest) + 27
     by-question none e later = let last = illegible-length number (omega arith) in omega arith
-    by-question (some q) e later = let here = question-length s a b q e in simp length-append (omega arith)
+    by-question (some q) e later = let here = question-length s a few b q e in simp length-append (omega arith)
 
 -- ---- the sheet
 
@@ -134,7 +135,7 @@ sheet-length : (n : ℕ) (ls : Lines) (r : Sheet) → n ≤ most → byteCount l
 unfolding sheetRun PartsRead
 sheet-length n ls (sheet s rest) h k (all, left) =
     given-length (sheetTests s 0) (questions s (partLine (length s)) rest) (perByte * byteCount ls + 27) (sheet-shorts s (omega arith)) (omega arith)
-    (λ a. let after = questions-length s a (partLine (length s)) rest (omega arith) in omega arith)
+    (λ a. let after = questions-length s a (omega arith) (partLine (length s)) rest (omega arith) in omega arith)
 sheet-length n ls (broken number) h k b = let last = illegible-length number (omega arith) in omega arith
 
 -- ---- the machine

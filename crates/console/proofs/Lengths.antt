@@ -1,14 +1,16 @@
 -- How long the lines are that a run prints: refusals, and the answers to questions.
 -- Assumes nothing.
 use Prim.Native.Nat.{ℕ, suc, _-_, _*_, _≤_, _<_}
-use native.Mathlib.Nat.{le-trans}
+use native.Mathlib.Nat.{le-trans, lt-trans}
 use native.Mathlib.Omega.{arith}
 use mathlib.Core.Path.{_≡_, refl}
 use mathlib.Core.List.{List, [], _∷_}
 use borrow.Table.Steps.{cases}
+use lib.Dec.{lit<}
 use lib.ListN.{length, length-append}
 use Rattle.tree.specs.Lca.{lca}
 use Rattle.tree.specs.Tree.{isRoot, nextRoot, rootOf}
+use Rattle.tree.specs.Branch.{Answer, pairAnswer}
 use Rattle.tree.specs.Trail.{liftCount}
 use Rattle.tree.specs.Verdict.{accepted}
 use Rattle.tree.specs.Tests.{Test, testNumber, testPlace, verdict, sheetTests, questionTests, Accepted, outside, lost, offSheet}
@@ -17,15 +19,16 @@ use Rattle.tree.proofs.Scans.{least-le, least-from}
 use Rattle.tree.proofs.Roots.{root-of}
 use Rattle.tree.proofs.Lcas.{lca-found}
 use Rattle.tree.proofs.ByLifts.{trail-fits}
+use Rattle.tree.proofs.Branches.{answer-found, answer-inside}
 use Rattle.tree.proofs.Acceptance.{accepted-tree}
 use Rattle.tree.proofs.Questions.{question-parts, question-accepted}
 use Rattle.tree.proofs.Claims.{trail-rows}
-use Rattle.text.specs.Bytes.{bytes, wordNumber}
-use Rattle.text.proofs.Decimals.{decimal-some}
+use Rattle.text.specs.Bytes.{bytes, decimal, wordNumber}
+use Rattle.text.proofs.Decimals.{decimal-length, decimal-some}
 use Rattle.lines.specs.Forms.{Query, pair, many, asked, text, mostListed, Legal}
 use Rattle.lines.specs.Machine.{most, countTests}
 use Rattle.lines.proofs.Legible.{five-digits}
-use Rattle.console.specs.Print.{refusal, pairLine, manyLine, given}
+use Rattle.console.specs.Print.{refusal, answerText, pairLine, manyLine, given}
 use Rattle.console.specs.Run.{answer}
 use Rattle.console.specs.Whole.{perByte}
 use Rattle.console.proofs.Carriers.{carrier-small}
@@ -35,6 +38,10 @@ use Rattle.console.proofs.Carriers.{carrier-small}
 -- a number of at most five digits
 abbrev pub Short : ℕ → Type 0
 Short n = n < 100000
+
+-- a part that the program takes has at most three
+three-digits : (n : ℕ) → n < most → length (decimal n) ≤ 3
+three-digits n h = decimal-length 2 n (lt-trans h (lit< tt))
 
 -- the line of a refusal
 pub refusal-length : (number place : ℕ) → Short number → Short place → length (refusal number place) ≤ 27
@@ -91,14 +98,17 @@ unfolding text wordNumber bytes
 refusal-fits (pair x y) = simp length-append (omega arith)
 refusal-fits (many xs) = simp length-append (omega arith)
 
--- nor is a pair's answer
-pair-fits : (x y carrier lifts : ℕ) → Short carrier → Short lifts → length (pairLine x y carrier lifts) ≤ worth (pair x y)
-unfolding pairLine text wordNumber bytes
-pair-fits x y carrier lifts h k =
+-- nor is a pair's answer, of parts that the program takes
+pair-fits : (x y : ℕ) (a : Answer) (lifts : ℕ) → a .carrier < most → a .left < most → a .right < most → Short lifts
+    → length (pairLine x y a lifts) ≤ worth (pair x y)
+unfolding pairLine answerText text wordNumber bytes
+pair-fits x y a lifts carrier left right short =
     let some-x = decimal-some x in
     let some-y = decimal-some y in
-    let left = five-digits carrier h in
-    let right = five-digits lifts k in
+    let digits = three-digits (a .carrier) carrier in
+    let digits-left = three-digits (a .left) left in
+    let digits-right = three-digits (a .right) right in
+    let counted = five-digits lifts short in
     simp length-append (omega arith)
 
 -- nor a list's
@@ -106,7 +116,7 @@ many-fits : (xs : List ℕ) (carrier : ℕ) → Short carrier → length (manyLi
 unfolding manyLine text wordNumber bytes
 many-fits xs carrier h = let digits = five-digits carrier h in simp length-append (omega arith)
 
-module _ (s : List ℕ) (a : Accepted s) where
+module _ (s : List ℕ) (a : Accepted s) (few : length s ≤ most) where
   -- the carrier of a question that is accepted is a part
   carrier-short : (question : List ℕ) → verdict (questionTests s 0 question) ≡ accepted → Short (lca s question)
   carrier-short question e =
@@ -115,20 +125,23 @@ module _ (s : List ℕ) (a : Accepted s) where
       let below = carrier-small s a question e _ (lca-found t question one (question-parts s question inside)) in
       omega arith
 
-  -- a pair has at most 32 lifts
-  lifts-short : (x y : ℕ) → verdict (questionTests s 0 (x ∷ y ∷ [])) ≡ accepted → Short (liftCount s x y)
-  lifts-short x y e =
+  -- so are a pair's branches, and it has at most 32 lifts
+  pair-length : (x y : ℕ) → verdict (questionTests s 0 (x ∷ y ∷ [])) ≡ accepted → length (pairLine x y (pairAnswer s x y) (liftCount s x y)) ≤ worth (pair x y)
+  pair-length x y e =
+      let (t, small) = accepted-tree s a in
       let (_, inside) = question-accepted s 0 (x ∷ y ∷ []) e in
-      let rows = trail-rows s a x y (inside 0 (omega arith)) (inside 1 (omega arith)) in
-      let few = trail-fits s (accepted-tree s a .1) x y in
-      omega arith
+      let hx = inside 0 (omega arith) in
+      let hy = inside 1 (omega arith) in
+      let (carrier, left, right) = answer-inside t hx hy (answer-found t hx hy) in
+      let rows = trail-rows s a x y hx hy in
+      let lifted = trail-fits s small x y in
+      pair-fits x y (pairAnswer s x y) (liftCount s x y) (omega arith) (omega arith) (omega arith) (omega arith)
 
   -- an answer has at most `perByte` bytes for each byte of its line
   pub answer-length : (q : Query) → Legal (asked q) → length (answer s q) ≤ worth q
   unfolding answer
   answer-length (pair x y) h =
-      given-length (questionTests s 0 (x ∷ y ∷ [])) _ (worth (pair x y)) (question-shorts s (x ∷ y ∷ []) (omega arith)) (refusal-fits (pair x y))
-      (λ e. pair-fits x y _ _ (carrier-short (x ∷ y ∷ []) e) (lifts-short x y e))
+      given-length (questionTests s 0 (x ∷ y ∷ [])) _ (worth (pair x y)) (question-shorts s (x ∷ y ∷ []) (omega arith)) (refusal-fits (pair x y)) (pair-length x y)
   answer-length (many xs) h =
       given-length (questionTests s 0 xs) _ (worth (many xs)) (question-shorts s xs (h .0)) (refusal-fits (many xs))
       (λ e. many-fits xs _ (carrier-short xs e))

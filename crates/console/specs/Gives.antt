@@ -3,12 +3,14 @@
 -- Assumes nothing.
 use Prim.Native.Nat.{ℕ, _≤_, _<_}
 use mathlib.Core.Path.{_≡_}
-use mathlib.Core.List.{List}
+use mathlib.Core.List.{List, [], _∷_}
 use mathlib.Core.Option.{Option, none, some}
 use lib.ListN.{length, drop}
-use Rattle.tree.specs.Tests.{Accepted}
+use Rattle.tree.specs.Verdict.{accepted}
+use Rattle.tree.specs.Tests.{verdict, questionTests, Accepted}
 use Rattle.tree.specs.Buffers.{labelCells, tourCells, liftCells, orderCells, workCells}
 use Rattle.tree.specs.Tables.{Lent, own}
+use Rattle.tree.specs.Branch.{pairAnswer}
 use Rattle.text.specs.Lines.{Lines, lines}
 use Rattle.lines.specs.Forms.{Query}
 use Rattle.lines.specs.Read.{entry, query, nextAs}
@@ -64,6 +66,11 @@ pub record Stands (t : Lent) (work : List ℕ) : Type 0 where
   pub accepts : Accepted (t .parents)
   pub tables : t ≡ own (t .parents)
   pub room : length work ≡ workCells (length (t .parents))
+
+-- a route's answer to an accepted pair: the carrier, and the branches towards x and y
+pub record Found (s : List ℕ) (x y carrier left right : ℕ) : Type 0 where
+  pub yes : verdict (questionTests s 0 (x ∷ y ∷ [])) ≡ accepted
+  pub is : record { carrier = carrier; left = left; right = right } ≡ pairAnswer s x y
 
 -- ---- buffers
 

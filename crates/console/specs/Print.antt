@@ -5,6 +5,7 @@ use mathlib.Core.List.{List, _++_}
 use Rattle.text.specs.Bytes.{bytes, wordNumber}
 use Rattle.tree.specs.declared.Refusal.{Refusal}
 use Rattle.tree.specs.Verdict.{Verdict, accepted, refused, numberOf, placeOf}
+use Rattle.tree.specs.Branch.{Answer}
 use Rattle.lines.specs.Forms.{listText}
 
 -- "prints `(refused N (at P))`"
@@ -19,11 +20,14 @@ refusalLine why = refusal (numberOf why) (placeOf why)
 unfoldable pub machineLine : ℕ → List ℕ
 machineLine n = wordNumber (bytes "(machine ") n ++ bytes ")\n"
 
--- "Each question repeats its numbers, then gives its carrier and, for a pair, its lifts"
-unfoldable pub pairLine : ℕ → ℕ → ℕ → ℕ → List ℕ
-pairLine x y carrier lifts =
-    wordNumber (bytes "(pair ") x
-    ++ (wordNumber (bytes " ") y ++ (wordNumber (bytes " (carrier ") carrier ++ (wordNumber (bytes ") (lifts ") lifts ++ bytes "))\n")))
+-- "Each question repeats its numbers, then gives its carrier"; of a pair "The program prints `(by A B)` after the carrier"
+unfoldable pub answerText : Answer → List ℕ
+answerText a = wordNumber (bytes " (carrier ") (a .carrier) ++ (wordNumber (bytes ") (by ") (a .left) ++ wordNumber (bytes " ") (a .right))
+
+-- "and, for a pair, its lifts"
+unfoldable pub pairLine : ℕ → ℕ → Answer → ℕ → List ℕ
+pairLine x y a lifts =
+    wordNumber (bytes "(pair ") x ++ (wordNumber (bytes " ") y ++ (answerText a ++ (wordNumber (bytes ") (lifts ") lifts ++ bytes "))\n")))
 
 unfoldable pub manyLine : List ℕ → ℕ → List ℕ
 manyLine xs carrier = bytes "(many" ++ (listText xs ++ (wordNumber (bytes " (carrier ") carrier ++ bytes "))\n"))

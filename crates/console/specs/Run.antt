@@ -9,6 +9,7 @@ use lib.ListN.{length}
 use Rattle.tree.specs.declared.Refusal.the-variants.{MalformedLine}
 use Rattle.tree.specs.Tests.{verdict, sheetTests, questionTests}
 use Rattle.tree.specs.Lca.{lca}
+use Rattle.tree.specs.Branch.{pairAnswer}
 use Rattle.tree.specs.Trail.{liftCount}
 use Rattle.text.specs.Lines.{Lines, tail, line, lines}
 use Rattle.lines.specs.Forms.{Query, pair, many}
@@ -27,9 +28,9 @@ abbrev pub partsOf : Query → List ℕ
 partsOf (pair x y) = x ∷ y ∷ []
 partsOf (many xs) = xs
 
--- the line that answers it: its carrier and, for a pair, its lifts
+-- the line that answers it: its carrier and, for a pair, the branches and its lifts
 abbrev pub answerLine : List ℕ → Query → List ℕ
-answerLine s (pair x y) = pairLine x y (lca s (x ∷ y ∷ [])) (liftCount s x y)
+answerLine s (pair x y) = pairLine x y (pairAnswer s x y) (liftCount s x y)
 answerLine s (many xs) = manyLine xs (lca s xs)
 
 -- what is printed for a question to an accepted sheet: "A refused question prints that line"

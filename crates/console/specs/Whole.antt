@@ -17,7 +17,7 @@ writtenOf (Short bytes) = (false, bytes)
 
 -- how many bytes are printed at most for each byte of an input
 abbrev pub perByte : ℕ
-perByte = 4
+perByte = 5
 
 -- how many bytes are printed at most besides
 abbrev pub besides : ℕ

@@ -16,7 +16,7 @@ ghost use Rattle.lines.specs.Forms.{mostListed, pair as Forms·pair, many as Fo
 ghost use Rattle.lines.specs.Machine.{most};
 ghost use Rattle.lines.specs.Gives.{queryOf, listedBy};
 ghost use Rattle.console.specs.Run.{partLine, answer as Run·answer, questions as Run·questions};
-ghost use Rattle.console.specs.Gives.{AsksGive, Stands};
+ghost use Rattle.console.specs.Gives.{AsksGive, Stands, Found};
 ghost use Rattle.tree.specs.Verdict.{told as Verdict·told};
 ghost use Rattle.tree.specs.Tables.{lentBy};
 
@@ -121,7 +121,7 @@ fn answer(
     }
 }
 
-// Answers a pair.
+// Answers a pair: its carrier and both branches are by labels.
 fn pair(
     x: u16,
     y: u16,
@@ -134,6 +134,59 @@ fn pair(
     out: &mut [u8],
     put: usize,
 ) -> usize
+    requires { ⌜ Stands (lentBy parents label tour lift order) (now work) ⌝ }
+    requires { ⌜ Room (now out) put (Run·answer (now parents) (Forms·pair x y)) ⌝ }
+    ensures { λ r. ⌜ Puts (now (out .entry)) put (Run·answer (now (parents .entry)) (Forms·pair x y)) (now (out .exit)) r ⌝ }
+{
+    let question = [x, y];
+    let mut answer = [0u16; routes::ANSWER_CELLS];
+    let r = routes::pairs_by_labels(
+        parents,
+        label,
+        tour,
+        lift,
+        order,
+        work,
+        &question,
+        &mut answer,
+    );
+    let Outcome::Accepted = r else {
+        return print::outcome(out, put, r);
+    };
+    lifted(
+        x,
+        y,
+        answer[0],
+        answer[1],
+        answer[2],
+        parents,
+        label,
+        tour,
+        lift,
+        order,
+        work,
+        out,
+        put,
+    )
+}
+
+// The same once these are found: its lifts are those of its trail.
+fn lifted(
+    x: u16,
+    y: u16,
+    carrier: u16,
+    left: u16,
+    right: u16,
+    parents: &[u16],
+    label: &[u16],
+    tour: &[u16],
+    lift: &[u16],
+    order: &[u16],
+    work: &mut [u16],
+    out: &mut [u8],
+    put: usize,
+) -> usize
+    requires { ⌜ Found (now parents) x y carrier left right ⌝ }
     requires { ⌜ Stands (lentBy parents label tour lift order) (now work) ⌝ }
     requires { ⌜ Room (now out) put (Run·answer (now parents) (Forms·pair x y)) ⌝ }
     ensures { λ r. ⌜ Puts (now (out .entry)) put (Run·answer (now (parents .entry)) (Forms·pair x y)) (now (out .exit)) r ⌝ }
@@ -155,7 +208,16 @@ fn pair(
     let Traced::Lifts(lifts) = r else {
         return print::outcome(out, put, told(r));
     };
-    print::pair(out, put, x as usize, y as usize, answer[0] as usize, lifts)
+    print::pair(
+        out,
+        put,
+        x as usize,
+        y as usize,
+        carrier as usize,
+        left as usize,
+        right as usize,
+        lifts,
+    )
 }
 
 // A trail's answer as an outcome.

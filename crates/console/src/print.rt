@@ -6,7 +6,7 @@ ghost use mathlib.Core.List.{[]};
 ghost use Rattle.tree.specs.Verdict.{verdictOf};
 ghost use Rattle.text.specs.Puts.{Room, Puts};
 ghost use Rattle.lines.specs.Forms.{listText};
-ghost use Rattle.console.specs.Print.{refusalLine, machineLine, pairLine, manyLine, given};
+ghost use Rattle.console.specs.Print.{refusalLine, machineLine, answerText, pairLine, manyLine, given};
 
 // The line of a refusal.
 pub(crate) fn refusal(out: &mut [u8], at: usize, why: Refusal) -> usize
@@ -48,16 +48,28 @@ pub(crate) fn pair(
     x: usize,
     y: usize,
     carrier: usize,
+    left: usize,
+    right: usize,
     lifts: usize,
 ) -> usize
-    requires { ⌜ Room (now out) at (pairLine x y carrier lifts) ⌝ }
-    ensures { λ r. ⌜ Puts (now (out .entry)) at (pairLine x y carrier lifts) (now (out .exit)) r ⌝ }
+    requires { ⌜ Room (now out) at (pairLine x y (record { carrier = carrier; left = left; right = right }) lifts) ⌝ }
+    ensures { λ r. ⌜ Puts (now (out .entry)) at (pairLine x y (record { carrier = carrier; left = left; right = right }) lifts) (now (out .exit)) r ⌝ }
 {
     let a = text::put_word_number(out, at, b"(pair ", x);
     let b = text::put_word_number(out, a, b" ", y);
-    let c = text::put_word_number(out, b, b" (carrier ", carrier);
+    let c = answer(out, b, carrier, left, right);
     let d = text::put_word_number(out, c, b") (lifts ", lifts);
     text::put_word(out, d, b"))\n")
+}
+
+// A pair's carrier, and by which branches, up to the last bracket.
+fn answer(out: &mut [u8], at: usize, carrier: usize, left: usize, right: usize) -> usize
+    requires { ⌜ Room (now out) at (answerText (record { carrier = carrier; left = left; right = right })) ⌝ }
+    ensures { λ r. ⌜ Puts (now (out .entry)) at (answerText (record { carrier = carrier; left = left; right = right })) (now (out .exit)) r ⌝ }
+{
+    let a = text::put_word_number(out, at, b" (carrier ", carrier);
+    let b = text::put_word_number(out, a, b") (by ", left);
+    text::put_word_number(out, b, b" ", right)
 }
 
 // The line that answers a list.

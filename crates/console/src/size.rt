@@ -11,7 +11,7 @@ ghost use Rattle.console.specs.Whole.{room as Whole·room};
 pub const MOST_BYTES: usize = 65536;
 
 // How many bytes are printed at most for each byte of an input.
-const PER_BYTE: usize = 4;
+const PER_BYTE: usize = 5;
 
 // How many bytes are printed at most besides.
 const BESIDES: usize = 64;

@@ -63,6 +63,11 @@ module _ {s : List ℕ} (t : Tree s) where
       by-equal x c (λ e. p .itself e ∙ sym (q .itself e))
       (λ e. same-level t h (p .below e .2) (q .below e .2) (branch-level h e p ∙ sym (branch-level h e q)))
 
+  -- it is a part
+  branch-inside : {c x b : ℕ} → x < length s → Ancestor s c x → Branch s c x b → b < length s
+  branch-inside {c} {x} h p r =
+      by-equal x c (λ e. rw (r .itself e) (ancestor-inside (t .inside) h p)) (λ q. ancestor-inside (t .inside) h (r .below q .2))
+
   -- the climber finds it
   pub branch-found : {c x : ℕ} → x < length s → Ancestor s c x → Branch s c x (branch s c x)
   unfolding branch
@@ -120,3 +125,11 @@ module _ {s : List ℕ} (t : Tree s) where
       let left : a .left ≡ b .left = branch-only hx (p .left) (subst (λ (c : ℕ). Branch s c x (b .left)) (sym same) (q .left)) in
       let right : a .right ≡ b .right = branch-only hy (p .right) (subst (λ (c : ℕ). Branch s c y (b .right)) (sym same) (q .right)) in
       same-fields same left right
+
+  -- its numbers are parts
+  pub answer-inside : {x y : ℕ} {a : Answer} → x < length s → y < length s → IsAnswer s x y a
+      → (a .carrier < length s) × (a .left < length s) × (a .right < length s)
+  answer-inside {x} {y} hx hy r =
+      let over-x = r .carrier .common x (List·Memᴰ·head refl) in
+      let over-y = r .carrier .common y (List·Memᴰ·tail (List·Memᴰ·head refl)) in
+      (ancestor-inside (t .inside) hx over-x, branch-inside hx over-x (r .left), branch-inside hy over-y (r .right))
