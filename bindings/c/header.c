@@ -2,8 +2,9 @@
  * Tests include/lca.h against the archive that is linked. Prints nothing and exits with 0 where all is right; otherwise it says on standard
  * error what is wrong, and exits with 1.
  *
- * It stands beside the tests of the Rust binding, since include/ has only what a user copies. It is compiled as C99 and as C++ (.ci/run).
- * By hand, from the top of the repository:
+ * It stands beside the tests of the Rust binding, since include/ has only what a user copies. It is one program with answers.h, which has
+ * the tests of the calls that answer, and known.h, which both share. It is compiled as C99 and as C++ (.ci/run). By hand, from the top of
+ * the repository:
  *
  *     rt staticlib lca
  *     cc -std=c99 -Wall -Wextra -Wpedantic -Werror -Iinclude bindings/c/header.c target/staticlib/liblca.a -o target/header
@@ -13,6 +14,9 @@
 /* First, so that the header is seen to need no other. */
 #include "lca.h"
 
+#include "answers.h"
+#include "known.h"
+
 #include <stdio.h>
 #include <stdlib.h>
 #include <string.h>
@@ -20,39 +24,6 @@
 #if LCA_VERSION < 1
 #error "LCA_VERSION must be a number from 1 on that #if can read"
 #endif
-
-enum { PARTS = 7, LABEL = 42, TOUR = 72, LIFT = 21, ORDER = 7, WORK = 28, COUNTS = 7, TOTALS = 7 };
-
-/* What a cell holds that no call has written. */
-enum { UNTOUCHED = 9999 };
-
-/* The known sheet. */
-static const uint16_t parents[PARTS] = {0, 0, 0, 1, 1, 2, 5};
-
-static uint16_t label[LABEL], tour[TOUR], lift[LIFT], order[ORDER], work[WORK];
-
-/* What each part has worn, and the most that it can have. */
-static const uint32_t counts[COUNTS] = {1, 2, 4, 8, 16, 32, 64};
-static const uint32_t most[COUNTS] = {UINT32_MAX, UINT32_MAX, UINT32_MAX, UINT32_MAX, UINT32_MAX, UINT32_MAX, UINT32_MAX};
-
-static int all_right = 1;
-
-/* Says so where a number is not what it must be. */
-static void expect(const char *what, uint64_t is, uint64_t must)
-{
-    if (is != must) {
-        fprintf(stderr, "header: %s is %lu and must be %lu\n", what, (unsigned long)is, (unsigned long)must);
-        all_right = 0;
-    }
-}
-
-/* The same of one number of many. */
-static void expect_at(const char *what, size_t at, uint64_t is, uint64_t must)
-{
-    char name[80];
-    snprintf(name, sizeof name, "%s(%lu)", what, (unsigned long)at);
-    expect(name, is, must);
-}
 
 static void test_version(void)
 {
@@ -155,54 +126,6 @@ static void test_build(void)
     test_compare();
 }
 
-typedef uint32_t asking(
-    const uint16_t *, size_t, const uint16_t *, size_t, const uint16_t *, size_t, const uint16_t *, size_t, const uint16_t *, size_t,
-    uint16_t *, size_t, const uint16_t *, size_t, uint16_t *, size_t, uint64_t *);
-
-/* Asks for the pairs 3 4 and 3 6, whose carriers are 1 and 0. */
-static void test_pairs(const char *what, asking *call)
-{
-    static const uint16_t question[4] = {3, 4, 3, 6};
-    uint16_t answer[2] = {UNTOUCHED, UNTOUCHED};
-    uint64_t value = UNTOUCHED;
-    uint32_t number = call(
-        parents, PARTS, label, LABEL, tour, TOUR, lift, LIFT, order, ORDER, work, WORK, question, 4, answer, 2, &value);
-    expect(what, number, LCA_ACCEPTED);
-    expect_at(what, 0, answer[0], 1);
-    expect_at(what, 1, answer[1], 0);
-    expect("the value of accepted pairs", value, 0);
-}
-
-static void test_list(void)
-{
-    static const uint16_t question[3] = {6, 5, 2};
-    uint16_t answer = UNTOUCHED;
-    uint64_t value = UNTOUCHED;
-    uint32_t number = lca_list(
-        parents, PARTS, label, LABEL, tour, TOUR, lift, LIFT, order, ORDER, work, WORK, question, 3, &answer, 1, &value);
-    expect("lca_list", number, LCA_ACCEPTED);
-    expect("lca_list's answer", answer, 2);
-    expect("lca_list's value", value, 0);
-}
-
-/* The trail of 3 and 6 has three lifts: to 3 and 5, to 1 and 2, to 0 and 0. */
-static void test_trail(void)
-{
-    static const uint16_t pair[2] = {3, 6}, rows[6] = {3, 5, 1, 2, 0, 0};
-    uint16_t trail[LCA_TRAIL_CELLS] = {0}, answer = UNTOUCHED;
-    uint64_t value = UNTOUCHED;
-    size_t i;
-    uint32_t number = lca_trail(
-        parents, PARTS, label, LABEL, tour, TOUR, lift, LIFT, order, ORDER, work, WORK, pair, 2, &answer, 1, trail, LCA_TRAIL_CELLS,
-        &value);
-    expect("lca_trail", number, LCA_ACCEPTED);
-    expect("lca_trail's count of lifts", value, 3);
-    expect("lca_trail's answer", answer, 0);
-    for (i = 0; i < 64; i++) {
-        expect_at("trail", i, trail[i], i < 6 ? rows[i] : 65535);
-    }
-}
-
 /* Asks for the subtree of a part, with so many cells of the order table. */
 static void test_subtree_of(size_t part, size_t cells, uint32_t must, uint64_t start_must, uint64_t value_must)
 {
@@ -231,6 +154,10 @@ static void test_subtree(void)
     }
     test_compare();
 }
+
+/* What each part has worn, and the most that it can have. */
+static const uint32_t counts[COUNTS] = {1, 2, 4, 8, 16, 32, 64};
+static const uint32_t most[COUNTS] = {UINT32_MAX, UINT32_MAX, UINT32_MAX, UINT32_MAX, UINT32_MAX, UINT32_MAX, UINT32_MAX};
 
 /* Asks for the totals of these counts. Part 1 carries 1 3 4, part 2 carries 2 5 6, part 5 carries 5 6, and the root all. */
 static void test_totals_of(const uint32_t *worn, const uint64_t *must)
@@ -288,11 +215,7 @@ int main(void)
     test_lengths();
     test_card();
     test_build();
-    test_pairs("lca_pairs_by_labels", lca_pairs_by_labels);
-    test_pairs("lca_pairs_by_tour", lca_pairs_by_tour);
-    test_pairs("lca_pairs_by_lifts", lca_pairs_by_lifts);
-    test_list();
-    test_trail();
+    test_answers();
     test_subtree();
     test_totals();
     test_refusal();
