@@ -8,6 +8,8 @@
  *   carries  a part carries itself and all that is bolted into what it carries: it is an ancestor of each
  *   subtree  of a part, the parts that it carries
  *   carrier  of two parts, or of a list, their lowest common ancestor: their common carrier that all their other common carriers carry
+ *   branch   of a carrier towards a part that it carries: the part directly below the carrier on the way to that part; the carrier itself
+ *            where the part is the carrier
  *   route    a way to find the carrier of a pair. There are three, and they give the same answers:
  *              by labels  B. Schieber and U. Vishkin, "On finding lowest common ancestors: simplification and parallelization",
  *                         SIAM Journal on Computing 17 (1988)
@@ -40,7 +42,7 @@
  *   question  2 for each pair            the pairs, one after another: x, y, x, y, ..
  *             2 for a trail              x, y
  *             any for a list             the listed parts
- *   answer    1 for each pair            the carriers, in the pairs' order
+ *   answer    3 for each pair            pair by pair in the question's order: the carrier, the branch towards x, the branch towards y
  *             1 for a list or a trail    the carrier
  *   trail     LCA_TRAIL_CELLS            two cells for each lift, x's side and then y's; LCA_NO_CELL after the last
  *   counts    lca_counts_cells(n)        each part's count
@@ -78,7 +80,7 @@ extern "C" {
  * The version of the C interface that this header declares. Every change of a call, of a length or of a number's meaning raises it.
  * lca_version() gives that of the archive which is linked. A program may compare both before its first call.
  */
-#define LCA_VERSION 3
+#define LCA_VERSION 4
 
 uint32_t lca_version(void);
 
@@ -107,6 +109,7 @@ enum lca_number {
 
 enum {
     LCA_MOST_PARTS = 16384, /* the most parts that a sheet can have */
+    LCA_ANSWER_CELLS = 3,   /* the cells of a pair's answer: the carrier, the branch towards x, the branch towards y */
     LCA_TRAIL_CELLS = 64,   /* the cells of a trail buffer: 32 rows of two */
     LCA_NO_CELL = 65535     /* what a cell holds that stands for nothing */
 };
@@ -233,7 +236,7 @@ uint32_t lca_compare(
  *   16,384       901,104    340 microseconds        9 ns        5 ns      14 ns
  */
 
-/* The carrier of each pair, by labels. A further pair takes constant time. */
+/* The carrier of each pair and its branches towards x and y, by labels. A further pair takes constant time. */
 uint32_t lca_pairs_by_labels(
     const uint16_t *parents, size_t parents_len,
     const uint16_t *label, size_t label_len,
@@ -245,7 +248,7 @@ uint32_t lca_pairs_by_labels(
     uint16_t *answer, size_t answer_len,
     uint64_t *value);
 
-/* The carrier of each pair, by the tour. A further pair takes constant time. */
+/* The carrier of each pair and its branches towards x and y, by the tour. A further pair takes constant time. */
 uint32_t lca_pairs_by_tour(
     const uint16_t *parents, size_t parents_len,
     const uint16_t *label, size_t label_len,
@@ -257,7 +260,10 @@ uint32_t lca_pairs_by_tour(
     uint16_t *answer, size_t answer_len,
     uint64_t *value);
 
-/* The carrier of each pair, by lifts. A further pair takes up to about 2 log n + 2 steps. */
+/*
+ * The carrier of each pair and its branches towards x and y, by lifts. A further pair takes up to about 2 log n + 2 steps, and constant
+ * time for the branches.
+ */
 uint32_t lca_pairs_by_lifts(
     const uint16_t *parents, size_t parents_len,
     const uint16_t *label, size_t label_len,

@@ -61,6 +61,7 @@ static void test_lengths(void)
         expect_at("lca_totals_cells", n, lca_totals_cells(n), all[i].totals);
     }
     expect("LCA_MOST_PARTS", LCA_MOST_PARTS, 16384);
+    expect("LCA_ANSWER_CELLS", LCA_ANSWER_CELLS, 3);
     expect("LCA_TRAIL_CELLS", LCA_TRAIL_CELLS, 64);
     expect("LCA_NO_CELL", LCA_NO_CELL, 65535);
 }
