@@ -52,6 +52,7 @@
 #![warn(missing_docs)]
 #![deny(unsafe_op_in_unsafe_fn)]
 
+mod answer;
 pub mod calls;
 pub mod cells;
 mod ffi;
@@ -59,8 +60,9 @@ mod refusal;
 mod route;
 mod tree;
 
+pub use answer::Trail;
 pub use refusal::Refusal;
-pub use route::{Route, Trail};
+pub use route::Route;
 pub use tree::Tree;
 
 /// The version of the C interface that this crate is written for: `LCA_VERSION` of `include/lca.h`.
