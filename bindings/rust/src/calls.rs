@@ -2,7 +2,8 @@
 //!
 //! A call takes slices of any length and content, and refuses what it cannot answer: the first test that fails gives its number, by the
 //! card of [`Refusal`]. [`cells`](crate::cells) gives the exact lengths that it accepts. A question of pairs has two cells for each pair,
-//! a trail's two, a list's any number; an answer has one cell for each pair, or one for a list or a trail.
+//! a trail's two, a list's any number. An answer has [`ANSWER`](crate::cells::ANSWER) cells for each pair, in the question's order: the
+//! carrier, the branch towards x, the branch towards y. For a list or a trail it has one, the carrier.
 //!
 //! `work` is the call's own: what it holds before makes no difference. Afterwards it is all zero, or unchanged after refusals 1 to 3. A
 //! refused call changes no other buffer, and an accepted one fills every cell of its answer, its rows, its totals, or the tables that it

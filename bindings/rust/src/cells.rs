@@ -5,6 +5,9 @@
 /// The most parts that a sheet can have.
 pub const MOST_PARTS: usize = 16_384;
 
+/// The cells of a pair's answer: the carrier, the branch towards x, the branch towards y.
+pub const ANSWER: usize = 3;
+
 /// The cells of a trail's buffer: 32 rows of two.
 pub const TRAIL: usize = 64;
 

@@ -10,6 +10,7 @@
 //! | carries | a part carries itself and all that is bolted into what it carries: it is an ancestor of each |
 //! | subtree | of a part, the parts that it carries ([`Tree::subtree`]) |
 //! | carrier | of two parts, or of a list, their lowest common ancestor: the common carrier that all others of theirs carry, the smallest assembly |
+//! | branch | of a carrier towards a part that it carries: the part directly below the carrier on the way there; the carrier itself if it is that part ([`Answer`]) |
 //! | route | a way to find the carrier of a pair: by labels, by tour or by lifts ([`Route`]). All give the same answers |
 //! | lift | one raise by the lift route, of one part or of both, by 2^k steps |
 //! | trail | the lifts of a pair in order: after each, where the two parts are ([`Trail`]) |
@@ -18,13 +19,18 @@
 //! | total | of a part, the wear of its assembly, in 64 bits: the sum of the counts of all parts that it carries ([`Tree::totals`]) |
 //!
 //! ```
-//! use lca::Tree;
+//! use lca::{Answer, Tree};
 //!
 //! # fn main() -> Result<(), lca::Refusal> {
 //! // Parts 1 and 2 are bolted into the root 0, parts 3 and 4 into 1, part 5 into 2, part 6 into 5.
 //! let tree = Tree::new(&[0, 0, 0, 1, 1, 2, 5])?;
 //! assert_eq!(tree.carrier(3, 4)?, 1);
-//! assert_eq!(tree.pairs_by_labels(&[(3, 4), (3, 6), (5, 6)])?, [1, 0, 5]);
+//!
+//! // By which branch: the carrier of 3 and 6 is 0, and the ways down to them begin with 1 and 2.
+//! assert_eq!(tree.pair(3, 6)?, Answer { carrier: 0, x_branch: 1, y_branch: 2 });
+//! let answers = tree.pairs_by_labels(&[(3, 4), (3, 6), (5, 6)])?;
+//! assert_eq!(answers[2], Answer { carrier: 5, x_branch: 5, y_branch: 6 });
+//!
 //! assert_eq!(tree.list(&[6, 5, 2])?, 2);
 //! assert_eq!(tree.trail(3, 6)?.rows, [(3, 5), (1, 2), (0, 0)]);
 //! assert_eq!(tree.subtree(2)?, [2, 5, 6]);
@@ -60,7 +66,7 @@ mod refusal;
 mod route;
 mod tree;
 
-pub use answer::Trail;
+pub use answer::{Answer, Trail};
 pub use refusal::Refusal;
 pub use route::Route;
 pub use tree::Tree;
@@ -73,7 +79,7 @@ pub use tree::Tree;
 /// ```
 /// assert_eq!(lca::calls::version(), lca::VERSION);
 /// ```
-pub const VERSION: u32 = 3;
+pub const VERSION: u32 = 4;
 
 #[cfg(doctest)]
 #[doc = include_str!("../README.md")]

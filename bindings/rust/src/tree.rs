@@ -9,7 +9,7 @@ mod questions;
 /// A sheet that is one rooted tree, with its four tables.
 ///
 /// A call that answers first tests the sheet and compares the tables with it, which takes time in proportion to the tables; then each pair
-/// of the call costs little. So ask many pairs in one call, by [`pairs`](Tree::pairs), and not one at a time by
+/// of the call costs little. So ask many pairs in one call, by [`pairs`](Tree::pairs), and not one at a time by [`pair`](Tree::pair) or
 /// [`carrier`](Tree::carrier). As `docs/PERFORMANCE.md` measured [`calls`] on its machine, on random sheets:
 ///
 /// | parts | a call with one pair, by any route | each further pair of the same call: by labels | by tour | by lifts |

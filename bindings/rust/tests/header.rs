@@ -67,6 +67,7 @@ fn the_header_has_the_numbers_of_refusals_by_the_same_names() {
 fn the_header_has_the_same_limits() {
     let in_header = |name| number_after(&format!("LCA_{name} = ")).unwrap();
     assert_eq!(in_header("MOST_PARTS"), cells::MOST_PARTS as u64);
+    assert_eq!(in_header("ANSWER_CELLS"), cells::ANSWER as u64);
     assert_eq!(in_header("TRAIL_CELLS"), cells::TRAIL as u64);
     assert_eq!(in_header("NO_CELL"), cells::NO_CELL.into());
 }

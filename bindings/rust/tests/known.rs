@@ -1,6 +1,7 @@
-//! Document 01's known sheets and the card of numbers, worked out by hand. Subtrees are in `subtrees.rs`, totals in `totals.rs`.
+//! Document 01's known sheets and the card of numbers, worked out by hand. Answers to pairs are in `branches.rs`, subtrees in `subtrees.rs`,
+//! totals in `totals.rs`.
 
-use lca::{calls, Refusal, Route, Trail, Tree};
+use lca::{calls, Refusal, Trail, Tree};
 
 const SHEET: [u16; 7] = [0, 0, 0, 1, 1, 2, 5];
 const NONE: u16 = 65_535;
@@ -53,15 +54,6 @@ fn the_sheet_of_seven_parts_has_its_tables() {
     assert_eq!(tree.order(), ORDER);
     let kept = Tree::from_tables(&SHEET, &LABEL, &TOUR, &LIFT, &ORDER);
     assert_eq!(kept, Ok(tree));
-}
-
-#[test]
-fn its_pairs_have_their_carriers_by_every_route() {
-    let tree = Tree::new(&SHEET).unwrap();
-    let pairs = [(3, 4), (3, 6), (6, 6), (0, 6), (5, 6), (4, 1), (6, 2)];
-    for route in [Route::Labels, Route::Tour, Route::Lifts] {
-        assert_eq!(tree.pairs(route, &pairs).unwrap(), [1, 0, 6, 0, 5, 1, 2]);
-    }
 }
 
 #[test]
@@ -172,6 +164,8 @@ fn a_misfit_names_its_buffer_and_changes_nothing() {
             assert_eq!(misfit(&[(buffer, length)]), refusal(3, buffer as u64));
         }
     }
+    // Three cells are for a pair by a route.
+    assert_eq!(misfit(&[(6, 3)]), refusal(3, 6));
 }
 
 #[test]
@@ -185,7 +179,7 @@ fn the_lowest_misfit_is_named_and_the_order_table_is_the_highest() {
 
 #[test]
 fn an_odd_question_is_a_misfit() {
-    let (mut work, mut answer) = ([3; 28], [3]);
+    let (mut work, mut answer) = ([3; 28], [3; 3]);
     let result = calls::pairs_by_tour(
         &SHEET,
         &LABEL,
@@ -197,7 +191,7 @@ fn an_odd_question_is_a_misfit() {
         &mut answer,
     );
     assert_eq!(result, Err(refusal(3, 5)));
-    assert_eq!((work, answer), ([3; 28], [3]));
+    assert_eq!((work, answer), ([3; 28], [3; 3]));
 }
 
 #[test]

@@ -4,7 +4,7 @@ use super::outcome;
 use crate::ffi;
 use crate::Refusal;
 
-/// The carrier of each pair, by the label table (tests 1 to 11), in constant time a further pair.
+/// The carrier of each pair and its branches towards x and y, by the label table (tests 1 to 11), in constant time a further pair.
 pub fn pairs_by_labels(
     parents: &[u16],
     label: &[u16],
@@ -19,7 +19,7 @@ pub fn pairs_by_labels(
     ask(call, parents, tables, work, question, answer)
 }
 
-/// The carrier of each pair, by the tour table (tests 1 to 11), in constant time a further pair.
+/// The carrier of each pair and its branches towards x and y, by the tour table (tests 1 to 11), in constant time a further pair.
 pub fn pairs_by_tour(
     parents: &[u16],
     label: &[u16],
@@ -34,7 +34,8 @@ pub fn pairs_by_tour(
     ask(call, parents, tables, work, question, answer)
 }
 
-/// The carrier of each pair, by the lift table (tests 1 to 11), in up to about 2 log n + 2 steps a further pair.
+/// The carrier of each pair and its branches towards x and y, by the lift table (tests 1 to 11), in up to about 2 log n + 2 steps a further
+/// pair, and constant time for the branches.
 pub fn pairs_by_lifts(
     parents: &[u16],
     label: &[u16],

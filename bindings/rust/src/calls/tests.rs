@@ -14,9 +14,19 @@ const ORDER: [u16; 2] = [1, 0];
 /// What `value` and `start` hold before a call.
 const BEFORE: u64 = u64::MAX;
 
-/// Asks by `call`: the result, the answer and the value.
-fn ask(call: Answering, question: &[u16], label: &[u16]) -> (u32, u16, u64) {
-    let (mut work, mut answer, mut value) = ([0; 8], [9], BEFORE);
+const PAIRS: [Answering; 3] = [
+    ffi::lca_pairs_by_labels,
+    ffi::lca_pairs_by_tour,
+    ffi::lca_pairs_by_lifts,
+];
+
+/// Asks by `call`, with so many cells for the answer: the result, the answer and the value.
+fn ask<const CELLS: usize>(
+    call: Answering,
+    question: &[u16],
+    label: &[u16],
+) -> (u32, [u16; CELLS], u64) {
+    let (mut work, mut answer, mut value) = ([0; 8], [9; CELLS], BEFORE);
     // SAFETY: each pointer and length are one array's, and no two of those overlap.
     let number = unsafe {
         call(
@@ -39,36 +49,42 @@ fn ask(call: Answering, question: &[u16], label: &[u16]) -> (u32, u16, u64) {
             &mut value,
         )
     };
-    (number, answer[0], value)
+    (number, answer, value)
 }
 
+/// A pair has the carrier, the branch towards x and the branch towards y, a list the carrier alone.
 #[test]
 fn an_accepted_question_s_value_is_0() {
-    for call in [
-        ffi::lca_pairs_by_labels,
-        ffi::lca_pairs_by_tour,
-        ffi::lca_pairs_by_lifts,
-        ffi::lca_list,
-    ] {
-        assert_eq!(ask(call, &[0, 0], &LABEL), (0, 0, 0));
-        assert_eq!(ask(call, &[0, 1], &LABEL), (0, 1, 0));
+    for call in PAIRS {
+        assert_eq!(ask(call, &[0, 0], &LABEL), (0, [0, 0, 0], 0));
+        assert_eq!(ask(call, &[0, 1], &LABEL), (0, [1, 0, 1], 0));
+        assert_eq!(ask(call, &[1, 0, 1, 1], &LABEL), (0, [1, 1, 0, 1, 1, 1], 0));
     }
+    assert_eq!(ask(ffi::lca_list, &[0, 0], &LABEL), (0, [0], 0));
+    assert_eq!(ask(ffi::lca_list, &[0, 1], &LABEL), (0, [1], 0));
+}
+
+/// The refusals of a call with so many cells for the answer, which fit its question.
+fn refuses<const CELLS: usize>(call: Answering) {
+    let untouched = [9; CELLS];
+    assert_eq!(ask(call, &[0, 2], &LABEL), (10, untouched, 1));
+    assert_eq!(ask(call, &[0, 0], &LABEL[1..]), (3, untouched, 1));
+    let mut stale = LABEL;
+    stale[11] = 0;
+    assert_eq!(ask(call, &[0, 2], &stale), (8, untouched, 11));
 }
 
 #[test]
 fn a_refused_question_s_value_is_the_place() {
-    for call in [
-        ffi::lca_pairs_by_labels,
-        ffi::lca_pairs_by_tour,
-        ffi::lca_pairs_by_lifts,
-        ffi::lca_list,
-    ] {
-        assert_eq!(ask(call, &[0, 2], &LABEL), (10, 9, 1));
-        assert_eq!(ask(call, &[0, 0], &LABEL[1..]), (3, 9, 1));
-        let mut stale = LABEL;
-        stale[11] = 0;
-        assert_eq!(ask(call, &[0, 2], &stale), (8, 9, 11));
+    for call in PAIRS {
+        refuses::<3>(call);
+        assert_eq!(ask(call, &[0, 1], &LABEL), (3, [9], 6));
+        assert_eq!(ask(call, &[0, 1], &LABEL), (3, [9; 2], 6));
+        assert_eq!(ask(call, &[0, 1], &LABEL), (3, [9; 4], 6));
+        assert_eq!(ask(call, &[0, 1, 0], &LABEL), (3, [9; 4], 5));
     }
+    refuses::<1>(ffi::lca_list);
+    assert_eq!(ask(ffi::lca_list, &[0, 1], &LABEL), (3, [9; 3], 6));
 }
 
 #[test]

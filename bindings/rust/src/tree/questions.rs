@@ -1,35 +1,38 @@
 //! The questions: pairs by each route, a list, a trail, a subtree, totals.
 
 use super::{zeros, Tree};
-use crate::{calls, cells, Refusal, Route, Trail};
+use crate::{calls, cells, Answer, Refusal, Route, Trail};
 
 impl Tree {
-    /// The carrier of each pair, by the route named (tests 9 to 11).
+    /// The carrier of each pair and its branches towards x and y, by the route named (tests 9 to 11).
     ///
     /// The tables are compared once for all pairs; [`Route`] says what a further pair costs. The place of a refusal counts the listed
     /// numbers, two to a pair.
     ///
     /// ```
-    /// use lca::{Refusal, Route, Tree};
+    /// use lca::{Answer, Refusal, Route, Tree};
     ///
     /// # fn main() -> Result<(), Refusal> {
     /// let tree = Tree::new(&[0, 0, 0, 1, 1, 2, 5])?;
     /// for route in [Route::Labels, Route::Tour, Route::Lifts] {
-    ///     assert_eq!(tree.pairs(route, &[(3, 4), (6, 6), (0, 6)])?, [1, 6, 0]);
+    ///     let answers = tree.pairs(route, &[(3, 4), (6, 6), (0, 6)])?;
+    ///     assert_eq!(answers[0], Answer { carrier: 1, x_branch: 3, y_branch: 4 });
+    ///     assert_eq!(answers[1], Answer { carrier: 6, x_branch: 6, y_branch: 6 });
+    ///     assert_eq!(answers[2], Answer { carrier: 0, x_branch: 0, y_branch: 2 });
     /// }
     /// let refusal = tree.pairs(Route::Tour, &[(3, 4), (0, 7)]).unwrap_err();
     /// assert_eq!(refusal, Refusal { number: Refusal::NO_SUCH_PART, place: 3 });
     /// # Ok(())
     /// # }
     /// ```
-    pub fn pairs(&self, route: Route, pairs: &[(u16, u16)]) -> Result<Vec<u16>, Refusal> {
+    pub fn pairs(&self, route: Route, pairs: &[(u16, u16)]) -> Result<Vec<Answer>, Refusal> {
         let call = match route {
             Route::Labels => calls::pairs_by_labels,
             Route::Tour => calls::pairs_by_tour,
             Route::Lifts => calls::pairs_by_lifts,
         };
         let question: Vec<u16> = pairs.iter().flat_map(|&(x, y)| [x, y]).collect();
-        let mut answer = vec![0; pairs.len()];
+        let mut answer = vec![0; cells::ANSWER * pairs.len()];
         call(
             &self.parents,
             &self.label,
@@ -40,31 +43,46 @@ impl Tree {
             &question,
             &mut answer,
         )?;
-        Ok(answer)
+        Ok(Answer::all(&answer))
     }
 
-    /// The carrier of each pair, by labels: after the comparison, constant time a pair.
-    pub fn pairs_by_labels(&self, pairs: &[(u16, u16)]) -> Result<Vec<u16>, Refusal> {
+    /// The carrier of each pair and its branches, by labels: after the comparison, constant time a pair.
+    pub fn pairs_by_labels(&self, pairs: &[(u16, u16)]) -> Result<Vec<Answer>, Refusal> {
         self.pairs(Route::Labels, pairs)
     }
 
-    /// The carrier of each pair, by the tour: after the comparison, constant time a pair.
-    pub fn pairs_by_tour(&self, pairs: &[(u16, u16)]) -> Result<Vec<u16>, Refusal> {
+    /// The carrier of each pair and its branches, by the tour: after the comparison, constant time a pair.
+    pub fn pairs_by_tour(&self, pairs: &[(u16, u16)]) -> Result<Vec<Answer>, Refusal> {
         self.pairs(Route::Tour, pairs)
     }
 
-    /// The carrier of each pair, by lifts: after the comparison, up to about 2 log n + 2 steps a pair.
-    pub fn pairs_by_lifts(&self, pairs: &[(u16, u16)]) -> Result<Vec<u16>, Refusal> {
+    /// The carrier of each pair and its branches, by lifts: after the comparison, up to about 2 log n + 2 steps a pair, and constant time for
+    /// the branches.
+    pub fn pairs_by_lifts(&self, pairs: &[(u16, u16)]) -> Result<Vec<Answer>, Refusal> {
         self.pairs(Route::Lifts, pairs)
     }
 
-    /// The carrier of one pair, by labels.
+    /// The carrier of one pair and its branches towards x and y, by labels.
     ///
     /// This is a call with one pair, and nearly all its time is the comparison of the tables: 1 µs at 64 parts and 340 µs at 16,384, where a
     /// further pair of the same call costs 9 ns. So for more pairs there is [`pairs`](Tree::pairs).
+    ///
+    /// ```
+    /// # fn main() -> Result<(), lca::Refusal> {
+    /// let tree = lca::Tree::new(&[0, 0, 0, 1, 1, 2, 5])?;
+    /// let answer = tree.pair(6, 2)?;
+    /// assert_eq!((answer.carrier, answer.x_branch, answer.y_branch), (2, 5, 2));
+    /// # Ok(())
+    /// # }
+    /// ```
+    pub fn pair(&self, x: u16, y: u16) -> Result<Answer, Refusal> {
+        let answers = self.pairs_by_labels(&[(x, y)])?;
+        Ok(answers[0])
+    }
+
+    /// The carrier of one pair alone, by labels. It takes as long as [`pair`](Tree::pair), which gives the branches too.
     pub fn carrier(&self, x: u16, y: u16) -> Result<u16, Refusal> {
-        let carriers = self.pairs_by_labels(&[(x, y)])?;
-        Ok(carriers[0])
+        self.pair(x, y).map(|answer| answer.carrier)
     }
 
     /// The carrier of all the parts listed (tests 9 to 11).
@@ -120,7 +138,7 @@ impl Tree {
     /// The subtree of a part (test 10, at 0): the parts that it carries, in preorder and itself first.
     ///
     /// It is a stretch of the tree's own [`order`](Tree::order), and nothing is copied. Nearly all its time is the comparison of the tables,
-    /// as with [`carrier`](Tree::carrier).
+    /// as with [`pair`](Tree::pair).
     ///
     /// ```
     /// use lca::{Refusal, Tree};

@@ -60,7 +60,7 @@ fn every_sheet_of_up_to_four_parts_and_every_short_question() {
                 let sound = case.agree(call, &lent).is_ok();
                 let numbers = if call == Call::List { 3 } else { 2 };
                 if sound && call.answers() {
-                    lent.answer.truncate(1);
+                    lent.answer.truncate(call.answer_cells(numbers));
                     for question in words(n + 1, numbers) {
                         let answerable = question.iter().all(|&part| part < n as u16);
                         lent.question = question;
@@ -127,7 +127,7 @@ fn ten_thousand_pairs_in_one_call() {
     for call in Call::ALL.into_iter().filter(|call| call.is_of_pairs()) {
         let mut lent = case.lent(call);
         lent.question = (0..20_000).map(|_| case.rng.below(3_000) as u16).collect();
-        lent.answer = case.rng.cells(10_000);
+        lent.answer = case.rng.cells(30_000);
         assert_eq!(case.agree(call, &lent), Ok(0), "{}", case.note);
         lent.question[19_999] = 3_000;
         assert_eq!(case.agree(call, &lent), Err((10, 19_999)), "{}", case.note);

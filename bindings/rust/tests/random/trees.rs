@@ -2,10 +2,10 @@
 
 use std::thread;
 
-use lca::{Refusal, Route, Trail, Tree};
+use lca::{Answer, Refusal, Route, Trail, Tree};
 
 use crate::model::{
-    carrier, common_carrier, subtree, totals, trail, Call, Refused, Tables, MOST_PARTS, TABLES,
+    common_carrier, pair, subtree, totals, trail, Call, Refused, Tables, MOST_PARTS, TABLES,
 };
 use crate::support::{alter_cell, alter_length, sound_cases, Case, Damage, Length, Rng, Shape};
 
@@ -19,6 +19,19 @@ fn refused<T: std::fmt::Debug>(result: Result<T, Refusal>) -> Refused {
 fn some_pairs(rng: &mut Rng, n: usize) -> Vec<(u16, u16)> {
     let mut part = || rng.below(n) as u16;
     (0..20).map(|_| (part(), part())).collect()
+}
+
+/// The plain model's answers.
+fn answers(parents: &[u16], pairs: &[(u16, u16)]) -> Vec<Answer> {
+    let answer = |&(x, y): &(u16, u16)| {
+        let [carrier, x_branch, y_branch] = pair(parents, x, y);
+        Answer {
+            carrier,
+            x_branch,
+            y_branch,
+        }
+    };
+    pairs.iter().map(answer).collect()
 }
 
 #[test]
@@ -46,20 +59,18 @@ fn a_tree_s_answers_are_the_plain_model_s() {
         let tree = Tree::new(&case.parents).unwrap();
         let pairs = some_pairs(&mut case.rng, case.parents.len());
         let parents = &case.parents;
-        let carriers: Vec<u16> = pairs.iter().map(|&(x, y)| carrier(parents, x, y)).collect();
+        let answers = answers(parents, &pairs);
         for route in ROUTES {
-            assert_eq!(
-                tree.pairs(route, &pairs).as_ref(),
-                Ok(&carriers),
-                "{}",
-                case.note
-            );
+            let found = tree.pairs(route, &pairs);
+            assert_eq!(found.as_ref(), Ok(&answers), "{}", case.note);
         }
-        assert_eq!(tree.pairs_by_labels(&pairs).as_ref(), Ok(&carriers));
-        assert_eq!(tree.pairs_by_tour(&pairs).as_ref(), Ok(&carriers));
-        assert_eq!(tree.pairs_by_lifts(&pairs).as_ref(), Ok(&carriers));
-        for (&(x, y), &carrier) in pairs.iter().zip(&carriers) {
+        assert_eq!(tree.pairs_by_labels(&pairs).as_ref(), Ok(&answers));
+        assert_eq!(tree.pairs_by_tour(&pairs).as_ref(), Ok(&answers));
+        assert_eq!(tree.pairs_by_lifts(&pairs).as_ref(), Ok(&answers));
+        for (&(x, y), &answer) in pairs.iter().zip(&answers) {
+            let carrier = answer.carrier;
             let rows = trail(parents, x, y);
+            assert_eq!(tree.pair(x, y), Ok(answer), "{}", case.note);
             assert_eq!(tree.carrier(x, y), Ok(carrier), "{}", case.note);
             assert_eq!(tree.trail(x, y).unwrap().lifts(), rows.len());
             assert_eq!(
@@ -77,6 +88,30 @@ fn a_tree_s_answers_are_the_plain_model_s() {
             "{}",
             case.note
         );
+    }
+}
+
+/// A branch is bolted into the carrier, and the part is in its subtree; where the part is the carrier, so is the branch.
+#[test]
+fn a_tree_s_branches_carry_their_parts() {
+    for mut case in sound_cases(200, 1, 60) {
+        let tree = Tree::new(&case.parents).unwrap();
+        let pairs = some_pairs(&mut case.rng, case.parents.len());
+        for route in ROUTES {
+            let answers = tree.pairs(route, &pairs).unwrap();
+            for (&(x, y), answer) in pairs.iter().zip(answers) {
+                for (part, branch) in [(x, answer.x_branch), (y, answer.y_branch)] {
+                    let below = part != answer.carrier;
+                    assert_eq!(branch != answer.carrier, below, "{}", case.note);
+                    if below {
+                        let entry = tree.parents()[branch as usize];
+                        assert_eq!(entry, answer.carrier, "{}", case.note);
+                    }
+                    let carried = tree.subtree(branch).unwrap();
+                    assert!(carried.contains(&part), "{}", case.note);
+                }
+            }
+        }
     }
 }
 
@@ -136,6 +171,7 @@ fn a_tree_refuses_questions() {
         let parts: Vec<u16> = pairs.iter().map(|&(_, y)| y).collect();
         assert_eq!(refused(tree.list(&parts)), (10, at as u64), "{}", case.note);
         assert_eq!(refused(tree.list(&[])), (9, 0), "{}", case.note);
+        assert_eq!(refused(tree.pair(0, n as u16)), (10, 1), "{}", case.note);
         assert_eq!(refused(tree.carrier(n as u16, 0)), (10, 0), "{}", case.note);
         assert_eq!(refused(tree.trail(0, 65_535)), (10, 1), "{}", case.note);
         assert_eq!(refused(tree.subtree(n as u16)), (10, 0), "{}", case.note);
@@ -205,16 +241,13 @@ fn threads_share_a_tree() {
     let mut case = Case::sound(7, Shape::Random, 500);
     let tree = Tree::new(&case.parents).unwrap();
     let pairs = some_pairs(&mut case.rng, 500);
-    let carriers: Vec<u16> = pairs
-        .iter()
-        .map(|&(x, y)| carrier(&case.parents, x, y))
-        .collect();
+    let answers = answers(&case.parents, &pairs);
     thread::scope(|scope| {
         for route in ROUTES {
-            let (tree, pairs, carriers) = (&tree, &pairs, &carriers);
+            let (tree, pairs, answers) = (&tree, &pairs, &answers);
             scope.spawn(move || {
                 for _ in 0..20 {
-                    assert_eq!(tree.pairs(route, pairs).as_ref(), Ok(carriers));
+                    assert_eq!(tree.pairs(route, pairs).as_ref(), Ok(answers));
                 }
             });
         }

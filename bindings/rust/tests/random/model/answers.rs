@@ -1,4 +1,4 @@
-//! Carriers, trails, subtrees and totals, by climbing.
+//! Carriers, branches, trails, subtrees and totals, by climbing.
 
 use super::sheet::carriers;
 use super::tables::log;
@@ -21,6 +21,21 @@ pub fn common_carrier(parents: &[u16], parts: &[u16]) -> u16 {
         .into_iter()
         .find(|&c| carried[c as usize] == parts.len());
     common.unwrap()
+}
+
+/// The branch of a carrier towards a part that it carries: of what the part's climb meets before the carrier, the last; where that is
+/// nothing, the carrier.
+pub fn branch(parents: &[u16], carrier: u16, part: u16) -> u16 {
+    let climb = carriers(parents, part).into_iter();
+    let before = climb.take_while(|&above| above != carrier);
+    before.last().unwrap_or(carrier)
+}
+
+/// The cells of a pair's answer: the carrier, x's branch, y's branch.
+pub fn pair(parents: &[u16], x: u16, y: u16) -> [u16; 3] {
+    let carrier = carrier(parents, x, y);
+    let [x_branch, y_branch] = [x, y].map(|part| branch(parents, carrier, part));
+    [carrier, x_branch, y_branch]
 }
 
 /// The rows of the lift route's trail.

@@ -1,6 +1,6 @@
 //! What each call gives, and what it leaves in every buffer.
 
-use super::answers::{carrier, common_carrier, subtree, totals, trail};
+use super::answers::{carrier, common_carrier, pair, subtree, totals, trail};
 use super::lent::Lent;
 use super::sheet::{not_one_tree, Refused, MOST_PARTS};
 use super::tables::{Tables, NONE};
@@ -45,6 +45,15 @@ impl Call {
 
     pub fn is_of_pairs(self) -> bool {
         self.answers() && self != Call::List && self != Call::Trail
+    }
+
+    /// The exact length of the answer to a question of so many cells: three for each pair, and one for a list or a trail.
+    pub fn answer_cells(self, asked: usize) -> usize {
+        if self.is_of_pairs() {
+            3 * (asked / 2)
+        } else {
+            1
+        }
     }
 
     /// Whether the call is lent the buffer of this number.
@@ -129,19 +138,26 @@ fn unanswerable(lent: &Lent) -> Option<Refused> {
     Some((10, place as u64))
 }
 
+/// Fills the answer, and of a trail its rows. Gives the count of lifts, or 0.
 fn answer(call: Call, lent: &mut Lent) -> u64 {
     let parents = &lent.parents;
-    if call == Call::List {
-        lent.answer[0] = common_carrier(parents, &lent.question);
-        return 0;
+    match call {
+        Call::List => lent.answer[0] = common_carrier(parents, &lent.question),
+        Call::Trail => return answer_trail(lent),
+        _ => {
+            let cells = lent.answer.chunks_mut(3);
+            for (asked, cells) in lent.question.chunks(2).zip(cells) {
+                cells.copy_from_slice(&pair(parents, asked[0], asked[1]));
+            }
+        }
     }
-    for (pair, cell) in lent.question.chunks(2).zip(&mut lent.answer) {
-        *cell = carrier(parents, pair[0], pair[1]);
-    }
-    if call != Call::Trail {
-        return 0;
-    }
-    let rows = trail(parents, lent.question[0], lent.question[1]);
+    0
+}
+
+fn answer_trail(lent: &mut Lent) -> u64 {
+    let (x, y) = (lent.question[0], lent.question[1]);
+    lent.answer[0] = carrier(&lent.parents, x, y);
+    let rows = trail(&lent.parents, x, y);
     lent.trail.fill(NONE);
     for (&(x, y), cells) in rows.iter().zip(lent.trail.chunks_mut(2)) {
         cells.copy_from_slice(&[x, y]);

@@ -26,6 +26,11 @@ fn the_known_sheet() {
     assert_eq!(trail(&KNOWN, 3, 6), [(3, 5), (1, 2), (0, 0)]);
     assert_eq!(carrier(&KNOWN, 5, 6), 5);
     assert_eq!(common_carrier(&KNOWN, &[6, 5, 2]), 2);
+    assert_eq!(pair(&KNOWN, 3, 4), [1, 3, 4]);
+    assert_eq!(pair(&KNOWN, 3, 6), [0, 1, 2]);
+    assert_eq!(pair(&KNOWN, 0, 6), [0, 0, 2]);
+    assert_eq!(pair(&KNOWN, 6, 2), [2, 5, 2]);
+    assert_eq!(pair(&KNOWN, 6, 6), [6, 6, 6]);
     assert_eq!(subtree(&KNOWN, &own.order, 1), [1, 3, 4]);
     assert_eq!(subtree(&KNOWN, &own.order, 2), [2, 5, 6]);
     assert_eq!(subtree(&KNOWN, &own.order, 6), [6]);
@@ -127,6 +132,26 @@ fn the_carrier_is_the_one_below_all_others() {
             assert!(above(x).contains(&found) && above(y).contains(&found));
             for common in above(x).into_iter().filter(|c| above(y).contains(c)) {
                 assert!(above(found).contains(&common), "{}", case.note);
+            }
+        }
+    }
+}
+
+/// "the part directly below the carrier on the way to x"; "Where x or y is the carrier itself, that branch is the carrier."
+#[test]
+fn a_branch_is_bolted_into_its_carrier_and_carries_the_part() {
+    for case in sound_cases(60, 1, 30) {
+        for part in 0..case.n() as u16 {
+            let climb = carriers(&case.parents, part);
+            for &carrier in &climb {
+                let found = branch(&case.parents, carrier, part);
+                if part == carrier {
+                    assert_eq!(found, carrier, "{}", case.note);
+                } else {
+                    let entry = case.parents[found as usize];
+                    assert!(found != carrier && entry == carrier, "{}", case.note);
+                    assert!(climb.contains(&found), "{}", case.note);
+                }
             }
         }
     }

@@ -63,7 +63,7 @@ impl Lent {
             Call::Trail => 2,
             _ => asked / 2 * 2,
         };
-        let answer = if call.is_of_pairs() { asked / 2 } else { 1 };
+        let answer = call.answer_cells(asked);
         let exact = [label, tour, lift, 4 * n, question, answer, 64, order, n, n];
         BUFFERS
             .filter(|&b| call.takes(b))

@@ -8,7 +8,7 @@ mod lent;
 mod sheet;
 mod tables;
 
-pub use answers::{carrier, common_carrier, subtree, totals, trail};
+pub use answers::{branch, carrier, common_carrier, pair, subtree, totals, trail};
 pub use calls::{Call, Plain};
 pub use lent::{Lent, BUFFERS, TABLES};
 pub use sheet::{carriers, not_one_tree, Refused, MOST_PARTS};

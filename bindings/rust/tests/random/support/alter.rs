@@ -7,11 +7,18 @@ use crate::model::{log, Call, Lent, TABLES};
 pub enum Length {
     OneShort,
     OneLong,
+    /// A third of its cells: of an answer to pairs, one cell for each.
+    Third,
     Empty,
 }
 
 impl Length {
-    pub const ALL: [Length; 3] = [Length::OneShort, Length::OneLong, Length::Empty];
+    pub const ALL: [Length; 4] = [
+        Length::OneShort,
+        Length::OneLong,
+        Length::Third,
+        Length::Empty,
+    ];
 }
 
 /// Gives the buffer of this number another length.
@@ -20,6 +27,7 @@ pub fn alter_length(lent: &mut Lent, buffer: usize, length: Length) {
     cells.set_length(match length {
         Length::OneShort => cells.length().saturating_sub(1),
         Length::OneLong => cells.length() + 1,
+        Length::Third => cells.length() / 3,
         Length::Empty => 0,
     });
 }

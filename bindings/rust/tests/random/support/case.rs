@@ -62,7 +62,7 @@ impl Case {
             lift: rng.cells(lift),
             work: rng.cells(4 * n),
             question: (0..asked).map(|_| rng.below(n.max(1)) as u16).collect(),
-            answer: rng.cells(if call.is_of_pairs() { asked / 2 } else { 1 }),
+            answer: rng.cells(call.answer_cells(asked)),
             trail: rng.cells(64),
             order: rng.cells(order),
             counts: rng.counts(n),
