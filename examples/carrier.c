@@ -1,14 +1,15 @@
 /*
- * Prints the carrier, the lowest common ancestor, of each pair of parts on a sheet, and then the parts that the first of these carriers
- * carries: the whole assembly, itself first.
+ * Prints the carrier, the lowest common ancestor, of each pair of parts on a sheet, with the branches by which it carries them: the parts
+ * directly below it on the way to the one and to the other, or the carrier itself where it is that part. Then it prints the parts that the
+ * first of these carriers carries: the whole assembly, itself first.
  *
  * Reads whitespace-separated numbers, 0 to 65535, from standard input: the count of parts, an entry for each part, and then the pairs.
  * examples/carrier.txt is such an input. Its output, in examples/carrier.out, is worked out by hand:
  *
- *     3 4: carrier 1
- *     3 6: carrier 0
- *     5 6: carrier 5
- *     0 6: carrier 0
+ *     3 4: carrier 1, by 3 and 4
+ *     3 6: carrier 0, by 1 and 2
+ *     5 6: carrier 5, by 5 and 6
+ *     0 6: carrier 0, by 0 and 2
  *     1 carries 1 3 4
  *
  * A refusal by the library is printed with its number, word and place. The exit status is 0 if every pair was answered, and 1 otherwise.
@@ -169,11 +170,13 @@ static int answer_pairs(struct lent *t, const struct buffer *question, struct bu
     return accepted(number, value);
 }
 
+/* Prints the answer to each pair: its carrier, and the branches towards both parts. */
 static void print_answers(const struct buffer *question, const struct buffer *answer)
 {
-    for (size_t i = 0; i < answer->len; i++) {
-        printf("%u %u: carrier %u\n", (unsigned)question->cells[2 * i], (unsigned)question->cells[2 * i + 1],
-            (unsigned)answer->cells[i]);
+    for (size_t i = 0; i < question->len / 2; i++) {
+        const uint16_t *pair = question->cells + 2 * i, *cells = answer->cells + LCA_ANSWER_CELLS * i;
+        printf("%u %u: carrier %u, by %u and %u\n", (unsigned)pair[0], (unsigned)pair[1], (unsigned)cells[0], (unsigned)cells[1],
+            (unsigned)cells[2]);
     }
 }
 
@@ -213,7 +216,8 @@ static int run(const struct buffer *parents, const struct buffer *question)
     struct buffer answer = {0};
     int done = 0;
     if (start(&t.label, lca_label_cells(n)) && start(&t.tour, lca_tour_cells(n)) && start(&t.lift, lca_lift_cells(n))
-        && start(&t.order, lca_order_cells(n)) && start(&t.work, lca_work_cells(n)) && start(&answer, question->len / 2)) {
+        && start(&t.order, lca_order_cells(n)) && start(&t.work, lca_work_cells(n))
+        && start(&answer, LCA_ANSWER_CELLS * (question->len / 2))) {
         done = answer_all(&t, question, &answer);
     } else {
         complain("out of memory");

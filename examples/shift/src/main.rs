@@ -19,6 +19,12 @@ fn main() -> Result<(), Refusal> {
     for worn in [&[63, 64, 66, 67][..], &[50, 58, 71, 86, 91]] {
         println!("{worn:?}: carrier {}", tree.list(worn)?);
     }
+    // By which saddles the bad arm carries two of its worn cutters.
+    let worn = tree.pair(63, 64)?;
+    println!(
+        "63 and 64: carrier {}, by {} and {}",
+        worn.carrier, worn.x_branch, worn.y_branch
+    );
     // All that hangs below the bad arm, as it stands in the tree's own order table.
     println!("3 carries {:?}", tree.subtree(3)?);
 
