@@ -1,10 +1,10 @@
 #!/usr/bin/env python3
-"""A plain model of the program, by document 01's words alone: what must be printed for an input.
+"""A plain model of the program, by the words of document 01 and of document 02, 2026-03, alone: what must be printed for an input.
 
     python3 tools/report.py < FILE
 
-It shares nothing with the library. Lines are split at LF and held to patterns; carriers are found by climbing part by part; lifts are counted
-twice, by the sum of ones and by trying each power of two, and both counts must be equal.
+It shares nothing with the library. Lines are split at LF and held to patterns; carriers and branches are found by climbing part by part; lifts are
+counted twice, by the sum of ones and by trying each power of two, and both counts must be equal.
 """
 import re, sys
 
@@ -78,6 +78,17 @@ def carrier_of(sheet, listed):
     return next(c for c in climb_of(sheet, listed[0]) if all(c in climb for climb in climbs))
 
 
+def branch_of(sheet, carrier, x):
+    """The part directly below the carrier on the way to x: the last on the climb of x before the carrier, or the carrier itself where x is it."""
+    if x == carrier:
+        return carrier
+    path = climb_of(sheet, x)
+    branch = path[path.index(carrier) - 1]
+    directly_below = [v for v in range(len(sheet)) if sheet[v] == carrier and v != carrier]
+    assert [v for v in directly_below if v in path] == [branch]
+    return branch
+
+
 def lifts_of(sheet, x, y):
     """The sum of ones, held to the count of raises."""
     def level(v):
@@ -112,8 +123,12 @@ def answer_of(sheet, kind, listed):
     why = question_refusal(sheet, listed)
     if why:
         return refused(*why)
-    said = '(%s%s (carrier %d)' % (kind, ''.join(' %d' % v for v in listed), carrier_of(sheet, listed))
-    return said + (' (lifts %d))\n' % lifts_of(sheet, *listed) if kind == 'pair' else ')\n')
+    carrier = carrier_of(sheet, listed)
+    said = '(%s%s (carrier %d)' % (kind, ''.join(' %d' % v for v in listed), carrier)
+    if kind == 'pair':
+        said += ' (by %d %d)' % tuple(branch_of(sheet, carrier, v) for v in listed)
+        said += ' (lifts %d)' % lifts_of(sheet, *listed)
+    return said + ')\n'
 
 
 def report(data):
