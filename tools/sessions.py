@@ -46,8 +46,8 @@ def cases():
 
 
 def room(n):
-    """What a buffer must have: four bytes for each byte that is read, and 64."""
-    return 4 * min(n, 65536) + 64
+    """What a buffer must have: five bytes for each byte that is read, and 64."""
+    return 5 * min(n, 65536) + 64
 
 
 def in_buffers(title, data):
@@ -87,6 +87,23 @@ def sheets():
     summary(b'513 parts in a chain', sheet(513, 513, 1))
 
 
+def spread():
+    """103 parts with root 100: part 0 sits in 101 and part 1 in 102, and every other part in the root, so that the numbers of a short pair's answer are long."""
+    below = {0: 101, 1: 102}
+    return b'(machine 103)\n' + b''.join(b'(part %d (in %d))\n' % (v, below.get(v, 100)) for v in range(103))
+
+
+def longest():
+    """A report that has more than four bytes for each byte of its input."""
+    data = spread() + 5779 * b'(pair 0 1)\n'
+    text = report(data)
+    assert len(data) == 65533
+    assert len(text) == 277406
+    assert 4 * len(data) + 64 < len(text)
+    assert text.count('(pair 0 1 (carrier 100) (by 101 102) (lifts 2))\n') == 5779
+    return data
+
+
 def limits():
     data = KNOWN + 7268 * b'(many 3)\n'
     assert len(data) == 65536
@@ -94,6 +111,7 @@ def limits():
     summary(b'an input of 65,535 bytes', data[:-1])
     summary(b'an input of 65,537 bytes', data + b'\n')
     summary(b'the most questions', KNOWN + 9344 * b'(many)\n')
+    summary(b'the longest report for its input', longest())
 
 
 for kind, title, data in cases():
