@@ -7,7 +7,8 @@ It takes each definition as it stands, climbs part by part, scans block by block
 from crates/known/stdin and makes the large ones. Of the tables of the large ones it says only what follows from the definitions: a sheet's own
 tables are accepted, and a changed cell is stale at its place. An answer is the carrier, by whatever route it is asked: no route's rule is here but
 that of lifts, for its trail. A subtree is what the part carries, kept in the order of the order table (document 02, 2026-01). A total is the sum of
-the counts of all parts that the part carries (2026-02); of the large sheets, what a walk has counted between coming to the part and leaving it.
+the counts of all parts that the part carries (2026-02); of the large sheets, what a walk has counted between coming to the part and leaving it. Behind
+a pair's carrier stand its branches (2026-03): where a climb from x, and from y, stands when its next step is to the carrier.
 """
 import os
 import re
@@ -18,8 +19,8 @@ NUMBERS = 640
 BUFFERS = [1, 2, 3, 8, 4]  # the numbers of label, tour, lift, order and work, which stand in this order wherever they are lent
 TABLES = 4
 ROOM = [192, 480, 192, 32, 128]
-ROOM_OF_ANSWER = 256
-ROOM_OF_TRAIL = [2, 65]
+ROOM_OF_ANSWER = 768
+ROOM_OF_TRAIL = [3, 65]
 ROOM_OF_TOTALS = [128, 32, 32]  # of work, counts and totals
 LARGEST_COUNT = 4294967295
 MIXING = 4294967291
@@ -111,7 +112,7 @@ def unfit(kind, question, answer, trail):
     elif kind == "r":
         fits = {5: question == 2, 6: answer == 1, 7: trail == 64}
     else:
-        fits = {5: question % 2 == 0, 6: 2 * answer == question}
+        fits = {5: question % 2 == 0, 6: 2 * answer == 3 * question}
     return lowest_unfit(fits)
 
 
@@ -243,6 +244,18 @@ def carrier(parents, parts):
     """The first part on the climb of one of them that carries all of them."""
     above = [set(carriers(parents, v)) for v in parts]
     return next(c for c in carriers(parents, parts[0]) if all(c in found for found in above))
+
+
+def branch(parents, common, v):
+    """The part directly below the carrier on the way to v, or the carrier itself where v is the carrier."""
+    if v == common:
+        return common
+    at = v
+    while parents[at] != common:
+        at = parents[at]
+    assert at in bolted_into(parents, common)
+    assert at in carriers(parents, v)
+    return at
 
 
 def level_of(parents, v):
@@ -401,8 +414,10 @@ def answered(name, why, answer):
 
 def show_pairs(parents, why, question):
     """The lines of a question of pairs, one for each route."""
-    pairs = zip(question[::2], question[1::2])
-    answer = [] if why is not None else [carrier(parents, pair) for pair in pairs]
+    answer = []
+    for pair in zip(question[::2], question[1::2]) if why is None else []:
+        common = carrier(parents, pair)
+        answer += [common] + [branch(parents, common, v) for v in pair]
     for route in ["labels", "tour", "lifts"]:
         print(answered(route, why, answer))
 

@@ -1,6 +1,6 @@
 // Asking for carriers and subtrees. Behind the cells of label, tour, lift, order and work (lend.rt) a line has how many cells of answer and of trail
 // are lent, how many numbers the question has, at how many places a cell is changed, and then the question, the places and the entries, as in
-// "pairs 42 72 21 7 28 1 0 2 0: 3 4 / 0 0 0 1 1 2 5". The sheet's tables are built, the cells at the places are changed, and the question is asked:
+// "pairs 42 72 21 7 28 3 0 2 0: 3 4 / 0 0 0 1 1 2 5". The sheet's tables are built, the cells at the places are changed, and the question is asked:
 // 'p' asks for pairs by each route, 'r' for the rows of a pair's trail, 'm' for the carrier of many parts, 's' for the subtree of each part. Before a
 // call all it may write holds sevens.
 
@@ -126,7 +126,7 @@ pub fn pairs(
     ask(b'f', cells, asked, parents, label, tour, lift, order, work);
 }
 
-// Asks one call, with an answer of so many cells.
+// Asks one call, with an answer of so many cells: up to 768, those of 256 pairs.
 pub fn ask(
     way: u8,
     cells: usize,
@@ -138,8 +138,8 @@ pub fn ask(
     order: &[u16],
     work: &mut [u16],
 ) {
-    let mut answer = [7u16; 256];
-    if 256 < cells {
+    let mut answer = [7u16; 768];
+    if 768 < cells {
         print::text(b"too many cells\n");
         return;
     }

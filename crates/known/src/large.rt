@@ -208,7 +208,7 @@ fn run_built(
     run_damaged(parents, label, tour, lift, order, work);
 }
 
-// Asks for nine pairs by each route, for two trails, for a list, and for subtrees.
+// Asks for nine pairs by each route, with three cells of answer for each, for two trails, for a list, and for subtrees.
 fn answers(
     parents: &[u16],
     label: &[u16],
@@ -240,7 +240,7 @@ fn answers(
     let apart = [12290u16, 11371];
     let above = [16383u16, 0];
     let many = [13885u16, 11371, 10066, 12290];
-    ask::pairs(9, &pairs, parents, label, tour, lift, order, work);
+    ask::pairs(27, &pairs, parents, label, tour, lift, order, work);
     trail::ask(1, 64, &apart, parents, label, tour, lift, order, work);
     trail::ask(1, 64, &above, parents, label, tour, lift, order, work);
     ask::ask(b'm', 1, &many, parents, label, tour, lift, order, work);

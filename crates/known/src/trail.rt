@@ -17,9 +17,9 @@ pub fn ask(
     order: &[u16],
     work: &mut [u16],
 ) {
-    let mut answer = [7u16; 2];
+    let mut answer = [7u16; 3];
     let mut trail = [7u16; 65];
-    if 2 < cells || 65 < rows {
+    if 3 < cells || 65 < rows {
         print::text(b"too many cells\n");
         return;
     }
