@@ -61,7 +61,7 @@ fn counts() {
     of_sheet(b"513 parts in a chain", 513, 513, 1, b"");
 }
 
-// A sheet of n parts of which so many have a line, each bolted into the part `step` before it, or the first; with questions behind it.
+// A sheet of n parts of which so many have a line, with the entries of `entry`, and questions behind it.
 fn of_sheet(name: &[u8], n: usize, lines: usize, step: usize, questions: &[u8]) {
     let mut text = bytes::largest_buffer();
     let a = bytes::number(&mut text, 0, b"(machine ", n, b")\n");
@@ -83,17 +83,34 @@ fn parts(text: &mut [u8], at: usize, lines: usize, step: usize) -> usize {
 
 // The same for one part.
 fn part(text: &mut [u8], at: usize, v: usize, step: usize) -> usize {
-    let parent = if step < v { v - step } else { 0 };
     let mid = bytes::number(text, at, b"(part ", v, b" (in ");
-    bytes::number(text, mid, b"", parent, b"))\n")
+    bytes::number(text, mid, b"", entry(v, step), b"))\n")
 }
 
-// Inputs of 65,536 bytes, one less and one more; and the most questions.
+// The part into which part v is bolted: the part `step` before it, or the first. Of a step of 0, part 101 for part 0, 102 for part 1 and 100 for all others.
+fn entry(v: usize, step: usize) -> usize {
+    if step == 0 {
+        return if v < 2 { v + 101 } else { 100 };
+    }
+    if step < v { v - step } else { 0 }
+}
+
+// Inputs of 65,536 bytes, one less and one more; the most questions; and short pairs whose answers are long.
 fn limits() {
     lists(b"an input of 65,536 bytes", b"(many 3)\n");
     lists(b"an input of 65,535 bytes", b"(many 3)");
     lists(b"an input of 65,537 bytes", b"(many 3)\n\n");
     filled(b"the most questions", b"(many)\n", 9344, b"");
+    longest();
+}
+
+// A report of more than four bytes for each byte of its input.
+fn longest() {
+    let mut text = bytes::largest_buffer();
+    let a = bytes::number(&mut text, 0, b"(machine ", 103, b")\n");
+    let b = parts(&mut text, a, 103, 0);
+    let end = bytes::repeat(&mut text, b, b"(pair 0 1)\n", 5779);
+    size::summary(b"the longest report for its input", &text, end);
 }
 
 // 7,267 lists, and one more.
