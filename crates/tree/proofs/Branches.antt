@@ -1,7 +1,7 @@
 -- A carrier has exactly one branch towards each part that it carries: the climber finds it, and so does a climb by the difference of levels. So a pair has
 -- exactly one answer.
 -- Assumes nothing.
-use Prim.Native.Nat.{ℕ, suc, _-_, _<_}
+use Prim.Native.Nat.{ℕ, suc, _+_, _-_, _<_}
 use native.Mathlib.Omega.{arith}
 use mathlib.Core.Path.{_≡_, refl, sym, ap, _∙_, subst}
 use mathlib.Core.Logic.{_≢_}
@@ -81,16 +81,23 @@ module _ {s : List ℕ} (t : Tree s) where
       let of : parent s (climb s k x) ≡ c = eqb-true _ _ (least-here (λ j. test (climb s j x)) (length s) soon) in
       rw (ne-eqb x c q) (record { below = λ _. (of, stops-below s c x q, ancestor-climb s k x); itself = λ e. absurd (q e) }))
 
-  -- and so does the rule
+  -- so does a climb from x to one level below the carrier
+  climbed-branch : {c x : ℕ} (k : ℕ) → x < length s → Ancestor s c x → x ≢ c → k + suc (level s c) ≡ level s x → Branch s c x (climb s k x)
+  climbed-branch {c} {x} k h p q e =
+      let d = child-toward t h p q in
+      let steps : k ≡ level s x - level s (d .child) = omega (arith, d .deeper) in
+      let there : climb s k x ≡ d .child = ap (λ (j : ℕ). climb s j x) steps ∙ above t h (d .carries) .there in
+      rw there (branch-child q d)
+
+  -- which is the rule
   pub rule-branch : {c x : ℕ} → x < length s → Ancestor s c x → Branch s c x (branchAt (own s) c x)
   unfolding branchAt
   rule-branch {c} {x} h p =
       by-equal x c (λ e. rw (eq-eqb x c e) (branch-itself s e))
       (λ q.
       let d = child-toward t h p q in
-      let steps : level s x - level s (d .child) ≡ level s x - level s c - 1 = omega (arith, d .deeper) in
-      let there : climb s (level s x - level s c - 1) x ≡ d .child = ap (λ (k : ℕ). climb s k x) (sym steps) ∙ above t h (d .carries) .there in
-      rw (ne-eqb x c q, level-at s x h, level-at s c (ancestor-inside (t .inside) h p), there) (branch-child q d))
+      let low = above t h (d .carries) .lower in
+      rw (ne-eqb x c q, level-at s x h, level-at s c (ancestor-inside (t .inside) h p)) (climbed-branch _ h p q (omega (arith, d .deeper))))
 
   -- so what is the branch is what the rule gives
   pub branch-is : {c x b : ℕ} → x < length s → Ancestor s c x → Branch s c x b → b ≡ branchAt (own s) c x
