@@ -3,6 +3,7 @@
 use crate::buffer::first_difference;
 use crate::buffer::get;
 use crate::buffer::number;
+use crate::climb::branch;
 use crate::climb::carrier;
 use crate::climb::fold;
 use crate::climb::level;
@@ -12,7 +13,7 @@ use crate::tally::agree;
 use crate::tally::count;
 use crate::trail as plain;
 
-// The carrier of each pair.
+// The answer to each pair.
 pub fn pairs(
     call: usize,
     sheet: &[u16],
@@ -22,7 +23,7 @@ pub fn pairs(
     log: &mut [usize],
 ) {
     let n = number(lent, 0);
-    let many = number(lent, 6);
+    let many = number(lent, 5) / 2;
     let mut i = 0;
     while i < many {
         pair(call, n, i, sheet, question, answer, log);
@@ -31,7 +32,7 @@ pub fn pairs(
     count(6, many, log);
 }
 
-// The carrier of pair i.
+// The answer to pair i, in three cells: its carrier, and the branches towards x and y.
 fn pair(
     call: usize,
     n: usize,
@@ -43,7 +44,26 @@ fn pair(
 ) {
     let x = get(question, times(2, i));
     let y = get(question, plus(times(2, i), 1));
-    agree(call, 6, i, carrier(sheet, n, x, y), get(answer, i), log);
+    let c = carrier(sheet, n, x, y);
+    let at = times(3, i);
+    agree(call, 6, at, c, get(answer, at), log);
+    same_branch(call, n, c, x, sheet, answer, plus(at, 1), log);
+    same_branch(call, n, c, y, sheet, answer, plus(at, 2), log);
+}
+
+// The branch of c towards x, in one cell.
+fn same_branch(
+    call: usize,
+    n: usize,
+    c: usize,
+    x: usize,
+    sheet: &[u16],
+    answer: &[u16],
+    at: usize,
+    log: &mut [usize],
+) {
+    let own = branch(sheet, n, c, x);
+    agree(call, 6, at, own, get(answer, at), log);
 }
 
 // The trail of one pair: its rows, its carrier, and its count, which is the formula's too.

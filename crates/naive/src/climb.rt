@@ -58,6 +58,24 @@ fn meet(sheet: &[u16], n: usize, x: usize, y: usize) -> usize {
     u
 }
 
+// The branch of a carrier c towards x: where a climb from x stands when its next step is to c, or n if that is not met in n steps; where x is c, it is c.
+pub fn branch(sheet: &[u16], n: usize, c: usize, x: usize) -> usize {
+    if x == c {
+        return c;
+    }
+    let mut at = x;
+    let mut i = 0;
+    while i < n {
+        let next = get(sheet, at);
+        if next == c {
+            return at;
+        }
+        at = next;
+        i += 1;
+    }
+    n
+}
+
 // The carrier of the first m parts of a list: that of each with the carrier of those before it.
 pub fn fold(sheet: &[u16], n: usize, list: &[u16], m: usize) -> usize {
     let mut at = get(list, 0);

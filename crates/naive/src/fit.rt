@@ -63,10 +63,10 @@ fn fit_question(call: usize, cells: usize) -> usize {
     cells
 }
 
-// The exact cells of the answer to a question that has `cells`.
+// The exact cells of the answer to a question that has `cells`: three for each pair, or one.
 fn answer(call: usize, cells: usize) -> usize {
     if asks_pairs(call) {
-        return cells / 2;
+        return times(3, cells / 2);
     }
     1
 }

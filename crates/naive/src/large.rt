@@ -54,10 +54,10 @@ pub fn question() -> [u16; 601]
 }
 
 // The answer.
-pub fn answer() -> [u16; 301]
-    ensures { λ r. ⌜ 301 ≡ length r ⌝ }
+pub fn answer() -> [u16; 901]
+    ensures { λ r. ⌜ 901 ≡ length r ⌝ }
 {
-    [0; 301]
+    [0; 901]
 }
 
 // The label table of 513 parts.

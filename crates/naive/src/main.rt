@@ -1,7 +1,7 @@
 // Random sheets against a plain climber. Every call of the library is made on sheets of many shapes and sizes, and its answer, every cell that it fills
-// and every refusal are held against a model that is written apart from the library: document 01's definitions and tests as they stand,
-// by climbing part by part and by looking cell by cell. The first disagreement is printed, and nothing is held after it; where there is none, a
-// summary says how much was held, and tools/naive.py works out how much that has to be.
+// and every refusal are held against a model that is written apart from the library: document 01's definitions and tests as they stand, and
+// document 02's branches (2026-03), by climbing part by part and by looking cell by cell. The first disagreement is printed, and nothing is held after
+// it; where there is none, a summary says how much was held, and tools/naive.py works out how much that has to be.
 
 mod after;
 mod answers;
