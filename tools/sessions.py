@@ -111,7 +111,7 @@ def limits():
     summary(b'an input of 65,535 bytes', data[:-1])
     summary(b'an input of 65,537 bytes', data + b'\n')
     summary(b'the most questions', KNOWN + 9344 * b'(many)\n')
-    summary(b'the longest report for its input', longest())
+    summary(b'a report of more than four bytes for each byte', longest())
 
 
 for kind, title, data in cases():
