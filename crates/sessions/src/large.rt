@@ -110,7 +110,11 @@ fn longest() {
     let a = bytes::number(&mut text, 0, b"(machine ", 103, b")\n");
     let b = parts(&mut text, a, 103, 0);
     let end = bytes::repeat(&mut text, b, b"(pair 0 1)\n", 5779);
-    size::summary(b"a report of more than four bytes for each byte", &text, end);
+    size::summary(
+        b"a report of more than four bytes for each byte",
+        &text,
+        end,
+    );
 }
 
 // 7,267 lists, and one more.
