@@ -11,25 +11,30 @@ fn level(parents: &[u16], mut v: u16) -> usize {
     steps
 }
 
-/// Climbs from the deeper node to equal levels, then from both together.
-pub fn lca(parents: &[u16], x: u16, y: u16) -> u16 {
-    let (lx, ly) = (level(parents, x), level(parents, y));
-    let (mut deep, mut other) = if lx < ly { (y, x) } else { (x, y) };
-    for _ in 0..lx.abs_diff(ly) {
-        deep = parents[deep as usize];
+/// Carrier, x's branch and y's branch: climbs from the deeper part to equal levels, then from both together. A branch is the last part
+/// before the carrier, or the carrier itself if there was no step.
+pub fn pair(parents: &[u16], x: u16, y: u16) -> [u16; 3] {
+    let (level_x, level_y) = (level(parents, x), level(parents, y));
+    let (mut x, mut y) = (x, y);
+    let (mut x_branch, mut y_branch) = (x, y);
+    for _ in level_y..level_x {
+        (x, x_branch) = (parents[x as usize], x);
     }
-    while deep != other {
-        deep = parents[deep as usize];
-        other = parents[other as usize];
+    for _ in level_x..level_y {
+        (y, y_branch) = (parents[y as usize], y);
     }
-    deep
+    while x != y {
+        (x, x_branch) = (parents[x as usize], x);
+        (y, y_branch) = (parents[y as usize], y);
+    }
+    [x, x_branch, y_branch]
 }
 
-/// The answers to a list of pairs.
+/// The answers to a list of pairs, three cells for each.
 pub fn pairs(parents: &[u16], question: &[u16]) -> Vec<u16> {
     question
         .chunks_exact(2)
-        .map(|pair| lca(parents, pair[0], pair[1]))
+        .flat_map(|asked| pair(parents, asked[0], asked[1]))
         .collect()
 }
 
@@ -57,5 +62,6 @@ pub fn totals(parents: &[u16], counts: &[u32]) -> Vec<u64> {
 
 /// The carrier of all the listed parts, one after another.
 pub fn list(parents: &[u16], question: &[u16]) -> Option<u16> {
-    question.iter().copied().reduce(|x, y| lca(parents, x, y))
+    let carrier = |x, y| pair(parents, x, y)[0];
+    question.iter().copied().reduce(carrier)
 }

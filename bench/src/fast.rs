@@ -3,8 +3,9 @@
 #![forbid(unsafe_code)]
 #![allow(clippy::too_many_arguments)] // One for each buffer.
 
-mod by_labels;
-mod by_lifts;
+pub mod by_labels;
+pub mod by_lifts;
+pub mod by_tour;
 mod certify;
 mod check;
 mod label;
@@ -12,6 +13,7 @@ mod lift;
 mod locate;
 mod order;
 mod routes;
+pub mod stretch;
 mod totals;
 mod tour;
 

@@ -72,7 +72,11 @@ fn compare(calls: &Calls, s: &mut State) {
 }
 
 fn pairs(calls: &Calls, route: usize, count: usize, s: &mut State) {
-    let (b, question, answer) = (&mut s.own, &s.question[..2 * count], &mut s.answer[..count]);
+    let (b, question, answer) = (
+        &mut s.own,
+        &s.question[..2 * count],
+        &mut s.answer[..3 * count],
+    );
     let [label, tour, lift, order] = [&b.label, &b.tour, &b.lift, &b.order];
     accepted((calls.pairs[route])(
         &b.parents,
@@ -148,8 +152,8 @@ fn memory_copy(s: &mut State) {
 
 fn climb_pairs(count: usize, s: &mut State) {
     let question = s.question[..2 * count].chunks_exact(2);
-    for (pair, z) in question.zip(&mut s.answer) {
-        *z = climb::lca(&s.own.parents, pair[0], pair[1]);
+    for (pair, z) in question.zip(s.answer.chunks_exact_mut(3)) {
+        z.copy_from_slice(&climb::pair(&s.own.parents, pair[0], pair[1]));
     }
     black_box(&mut s.answer);
 }
@@ -227,7 +231,7 @@ pub fn sheet(budget: Budget, n: usize, shape: Shape) -> Sheet {
     let state = &mut State {
         copy: own.clone(),
         question: parts(2 * PAIRS[2], n, &mut draw),
-        answer: vec![0; PAIRS[2]],
+        answer: vec![0; 3 * PAIRS[2]],
         trail: vec![0; lca::cells::TRAIL],
         own,
     };

@@ -4,11 +4,14 @@
 use std::fmt::Debug;
 
 use crate::buffers::Buffers;
-use crate::candidates::{Ask, Calls, Outcome, PROVED, ROUTES, RUST};
+use crate::candidates::{Calls, Outcome, PROVED, RUST};
 use crate::climb;
-use crate::sheets::{parts, random, Draw};
+use crate::sheets::{deep, parts, random, Draw};
 
+mod questions;
 mod totals;
+
+use questions::{ask, BY_ROUTE};
 
 type Checked<T = ()> = Result<T, String>;
 
@@ -110,66 +113,12 @@ fn misfits(what: &str, own: &Buffers) -> Checked {
             let what = format!("{what}, buffer {number} misfits");
             expect(&what, compare(&what, &bad)?, Err((3, number)))?;
             expect(&what, subtree(&what, &bad, 0)?, Err((3, number)))?;
-            // The answer is buffer 6, and has a cell too many.
+            // The answer is buffer 6, and has a cell too few.
             let asked = ask(&what, &bad, &[0, 0], 2, BY_ROUTE[0])?.0;
             expect(&what, asked, Err((3, number.min(6))))?;
         }
     }
     Ok(())
-}
-
-/// One question by one call, with an answer of so many cells.
-fn ask(
-    what: &str,
-    own: &Buffers,
-    question: &[u16],
-    cells: usize,
-    call: fn(&Calls) -> Ask,
-) -> Checked<(Outcome, Vec<u16>)> {
-    let state = (own.clone(), vec![7; cells]);
-    let (outcome, (_, answer)) = same(what, &state, |calls, (b, answer)| {
-        let [label, tour, lift, order] = [&b.label, &b.tour, &b.lift, &b.order];
-        let (parents, work) = (&b.parents, &mut b.work);
-        call(calls)(parents, label, tour, lift, order, work, question, answer)
-    })?;
-    Ok((outcome, answer))
-}
-
-const BY_ROUTE: [fn(&Calls) -> Ask; 3] = [|c| c.pairs[0], |c| c.pairs[1], |c| c.pairs[2]];
-
-/// Pairs by every route, a list and trails, against the climber.
-fn answers(what: &str, own: &Buffers, question: &[u16]) -> Checked {
-    let climbed = climb::pairs(&own.parents, question);
-    for (route, call) in BY_ROUTE.into_iter().enumerate() {
-        let what = format!("{what}, pairs by {}", ROUTES[route]);
-        let (outcome, answer) = ask(&what, own, question, climbed.len(), call)?;
-        expect(&what, (outcome, &answer), (Ok(0), &climbed))?;
-    }
-    let (outcome, answer) = ask(&format!("{what}, list"), own, question, 1, |c| c.list)?;
-    let carrier = climb::list(&own.parents, question);
-    expect(
-        &format!("{what}, list"),
-        (outcome, answer.first().copied()),
-        (Ok(0), carrier),
-    )?;
-    for (pair, &carrier) in question.chunks_exact(2).zip(&climbed).take(20) {
-        trail(&format!("{what}, trail of {pair:?}"), own, pair, carrier)?;
-    }
-    Ok(())
-}
-
-fn trail(what: &str, own: &Buffers, pair: &[u16], carrier: u16) -> Checked {
-    let state = (own.clone(), vec![7; 1], vec![7; lca::cells::TRAIL]);
-    let (outcome, (_, answer, rows)) = same(what, &state, |calls, (b, answer, rows)| {
-        let [label, tour, lift, order] = [&b.label, &b.tour, &b.lift, &b.order];
-        let (parents, work) = (&b.parents, &mut b.work);
-        (calls.trail)(parents, label, tour, lift, order, work, pair, answer, rows)
-    })?;
-    let lifts = rows
-        .chunks_exact(2)
-        .filter(|row| row[0] != lca::cells::NO_CELL)
-        .count();
-    expect(what, (outcome, answer), (Ok(lifts as u64), vec![carrier]))
 }
 
 /// Where a part's subtree stands in the order table, by addresses, and its count; or the refusal.
@@ -200,36 +149,6 @@ fn subtrees(what: &str, own: &Buffers, parts: &[u16]) -> Checked {
     Ok(())
 }
 
-/// Questions of none, of an odd count, with an answer that misfits and with a number that is no part.
-fn refused_questions(what: &str, own: &Buffers, draw: &mut Draw) -> Checked {
-    let n = own.parents.len();
-    let question = parts(10, n, draw);
-    let at = draw.below(10);
-    let mut off = question.clone();
-    off[at] = n as u16;
-    for call in BY_ROUTE {
-        expect(what, ask(what, own, &[], 0, call)?.0, Err((9, 0)))?;
-        expect(
-            what,
-            ask(what, own, &question[..5], 2, call)?.0,
-            Err((3, 5)),
-        )?;
-        expect(what, ask(what, own, &question, 4, call)?.0, Err((3, 6)))?;
-        expect(what, ask(what, own, &off, 5, call)?.0, Err((10, at as u64)))?;
-    }
-    expect(what, ask(what, own, &[], 1, |c| c.list)?.0, Err((9, 0)))?;
-    expect(
-        what,
-        ask(what, own, &question, 2, |c| c.list)?.0,
-        Err((3, 6)),
-    )?;
-    expect(
-        what,
-        ask(what, own, &off, 1, |c| c.list)?.0,
-        Err((10, at as u64)),
-    )
-}
-
 /// Everything on one sheet.
 fn sheet(what: &str, parents: &[u16], draw: &mut Draw) -> Checked {
     totals::sheet(what, parents, draw)?;
@@ -237,21 +156,24 @@ fn sheet(what: &str, parents: &[u16], draw: &mut Draw) -> Checked {
         return Ok(());
     };
     let question = parts(200, parents.len(), draw);
-    answers(what, &own, &question)?;
+    questions::answers(what, &own, &question)?;
+    let pairs = 1 + draw.below(150);
+    questions::pairs(what, &own, &parts(2 * pairs, parents.len(), draw))?;
     // The climber takes long on a long chain.
     let few = if parents.len() > 1_000 { 3 } else { 20 };
     subtrees(what, &own, &question[..few])?;
-    refused_questions(what, &own, draw)?;
+    questions::refused(what, &own, draw)?;
     misfits(what, &own)?;
     damaged(what, &own, 30, draw)
 }
 
-/// Small random sheets, right ones and ones with other entries, and sheets of none and of too many.
+/// Small random and deep sheets, right ones and ones with other entries, and sheets of none and of too many.
 pub fn small(count: usize) -> Checked {
     let mut draw = Draw::new(7);
     for time in 0..count {
         let n = 1 + draw.below(40);
-        let mut parents = random(n, &mut draw);
+        let shape = [random, deep][time % 2];
+        let mut parents = shape(n, &mut draw);
         sheet(&format!("small sheet {time}"), &parents, &mut draw)?;
         for _ in 0..1 + draw.below(3) {
             parents[draw.below(n)] = draw.below(n + 1) as u16;

@@ -50,13 +50,23 @@ impl Shape {
 
 /// A random recursive tree under a random permutation of its numbers.
 pub fn random(n: usize, draw: &mut Draw) -> Vec<u16> {
+    shuffled(n, draw, |v, draw| draw.below(v))
+}
+
+/// The same, but each node's parent is one of the 8 before it.
+pub fn deep(n: usize, draw: &mut Draw) -> Vec<u16> {
+    shuffled(n, draw, |v, draw| v - 1 - draw.below(v.min(8)))
+}
+
+/// A tree whose nodes 1 and up have these parents, under a random permutation of its numbers.
+fn shuffled(n: usize, draw: &mut Draw, parent: fn(usize, &mut Draw) -> usize) -> Vec<u16> {
     let mut name: Vec<u16> = (0..n as u16).collect();
     for i in (1..n).rev() {
         name.swap(i, draw.below(i + 1));
     }
     let mut parents = vec![name[0]; n];
     for v in 1..n {
-        parents[name[v] as usize] = name[draw.below(v)];
+        parents[name[v] as usize] = name[parent(v, draw)];
     }
     parents
 }

@@ -1,45 +1,97 @@
 //! The lift route, and its trail.
 
+use std::array;
 use std::hint::select_unpredictable;
 
-/// Pairs that the lift route takes at once: their loads don't wait for one another.
-pub const AT_ONCE: usize = 8;
+use super::{label, log2};
 
-/// The carriers of P pairs by lifts, each row looked into once for each phase.
-#[inline(always)]
-pub fn raise<const P: usize>(rows: &[u16], level: &[u16], pairs: &[u16]) -> [u16; P] {
-    let n = level.len();
-    let (mut x, mut y, mut gap) = ([0; P], [0; P], [0; P]);
-    for (i, pair) in pairs.chunks_exact(2).take(P).enumerate() {
-        let (a, b) = (level[pair[0] as usize], level[pair[1] as usize]);
-        (x[i], y[i]) = if a < b {
-            (pair[1], pair[0])
-        } else {
-            (pair[0], pair[1])
-        };
-        gap[i] = a.abs_diff(b);
+/// Pairs that the lift route takes at once: their loads don't wait for one another.
+pub const AT_ONCE: usize = 10;
+
+/// The carrier of each pair and its branches, by the lift table and LEVEL.
+pub fn answer(rows: &[u16], level: &[u16], pairs: &[[u16; 2]], answer: &mut [[u16; 3]]) {
+    let ((groups, pairs), (answers, cells)) = (pairs.as_chunks(), answer.as_chunks_mut());
+    for (group, answer) in groups.iter().zip(answers) {
+        raise::<AT_ONCE>(rows, level, group, answer);
     }
-    for row in rows.chunks_exact(n) {
+    for (pair, cells) in pairs.iter().zip(cells) {
+        raise(rows, level, array::from_ref(pair), array::from_mut(cells));
+    }
+}
+
+/// The rows that can change an answer: those that pass the deepest level raise every part to the root.
+pub fn rows<'a>(lift: &'a [u16], label: &[u16], n: usize) -> &'a [u16] {
+    let deepest = label::deepest(label, n) as usize;
+    &lift[..n * (log2(deepest) + 1).min(log2(n) + 1)]
+}
+
+/// The carriers of P pairs by lifts and their branches, each row looked into once for each phase. Parts are words of 32 bits, which are
+/// chosen and indexed by without further steps.
+#[inline(always)]
+pub fn raise<const P: usize>(
+    rows: &[u16],
+    level: &[u16],
+    pairs: &[[u16; 2]; P],
+    answer: &mut [[u16; 3]; P],
+) {
+    let n = level.len();
+    let [mut deeper, mut other, mut gap] = [[0; P]; 3];
+    for i in 0..P {
+        let ([x, y], [a, b]) = (pairs[i].map(u32::from), pairs[i].map(|x| level[x as usize]));
+        deeper[i] = select_unpredictable(a < b, y, x);
+        other[i] = select_unpredictable(a < b, x, y);
+        gap[i] = a.abs_diff(b) as u32;
+    }
+    let below = level_up(rows, n, &gap, &mut deeper);
+    meet(rows, n, &mut deeper, &mut other);
+    for i in 0..P {
+        let (x, y) = (deeper[i], other[i]);
+        let up = rows[x as usize];
+        let carrier = select_unpredictable(x == y, x as u16, up);
+        let (x, y) = (select_unpredictable(x == y, below[i], x) as u16, y as u16);
+        let [a, b] = pairs[i].map(|x| level[x as usize]);
+        answer[i] = [
+            carrier,
+            select_unpredictable(a < b, y, x),
+            select_unpredictable(a < b, x, y),
+        ];
+    }
+}
+
+/// Raises the deeper parts by the gaps. Gives what they were one step before: the branch, where the other part is the carrier.
+#[inline(always)]
+fn level_up<const P: usize>(
+    rows: &[u16],
+    n: usize,
+    gap: &[u32; P],
+    deeper: &mut [u32; P],
+) -> [u32; P] {
+    let but_one = gap.map(|gap| gap.saturating_sub(1));
+    for (k, row) in rows.chunks_exact(n).enumerate() {
         for i in 0..P {
-            let up = row[x[i] as usize];
-            x[i] = select_unpredictable(gap[i] & 1 == 1, up, x[i]);
-            gap[i] >>= 1;
+            let up = row[deeper[i] as usize] as u32;
+            deeper[i] = select_unpredictable(but_one[i] >> (k % 16) & 1 == 1, up, deeper[i]);
         }
     }
+    let below = *deeper;
+    for i in 0..P {
+        let up = rows[deeper[i] as usize] as u32;
+        deeper[i] = select_unpredictable(gap[i] != 0, up, deeper[i]);
+    }
+    below
+}
+
+/// Raises both parts of each pair until they are the carrier's branches. Those that are one part already stay.
+#[inline(always)]
+fn meet<const P: usize>(rows: &[u16], n: usize, deeper: &mut [u32; P], other: &mut [u32; P]) {
     for row in rows.chunks_exact(n).rev() {
         for i in 0..P {
-            let (up_x, up_y) = (row[x[i] as usize], row[y[i] as usize]);
-            x[i] = select_unpredictable(up_x != up_y, up_x, x[i]);
-            y[i] = select_unpredictable(up_x != up_y, up_y, y[i]);
+            let (x, y) = (deeper[i], other[i]);
+            let (up_x, up_y) = (row[x as usize] as u32, row[y as usize] as u32);
+            deeper[i] = select_unpredictable(up_x != up_y, up_x, x);
+            other[i] = select_unpredictable(up_x != up_y, up_y, y);
         }
     }
-    std::array::from_fn(|i| {
-        if x[i] == y[i] {
-            x[i]
-        } else {
-            rows[x[i] as usize]
-        }
-    })
 }
 
 /// Follows the lift route and writes a row for each lift.

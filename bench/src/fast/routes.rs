@@ -1,8 +1,9 @@
 //! The calls that answer: pairs by each route, a list, the trail of one pair, and the subtree of one part.
 
 use super::by_labels::Labels;
-use super::by_lifts::{raise, traced, AT_ONCE};
-use super::{admit_tables, label, log2, refuse, tour, Refusal, NO_CELL, TRAIL_CELLS};
+use super::by_lifts::traced;
+use super::stretch::Tour;
+use super::{admit_tables, by_lifts, by_tour, refuse, Refusal, NO_CELL, TRAIL_CELLS};
 
 /// Tests 1 to 10; `misfit` is the lowest buffer of question, answer and trail that misfits.
 fn admit(
@@ -24,15 +25,16 @@ fn admit(
     Ok(())
 }
 
+/// A question has two cells for each pair, its answer three: carrier, x's branch, y's branch.
 fn pairs_misfit(question: &[u16], answer: &[u16]) -> Option<usize> {
     if !question.len().is_multiple_of(2) {
         Some(5)
     } else {
-        (answer.len() != question.len() / 2).then_some(6)
+        (answer.len() != question.len() / 2 * 3).then_some(6)
     }
 }
 
-/// The carrier of each pair, by the label table.
+/// The carrier of each pair and its branches, by the label table; by the tour table a branch that no HEAD shows.
 pub fn pairs_by_labels(
     parents: &[u16],
     label: &[u16],
@@ -45,14 +47,13 @@ pub fn pairs_by_labels(
 ) -> Result<(), Refusal> {
     let misfit = pairs_misfit(question, answer);
     admit(parents, [label, tour, lift, order], work, question, misfit)?;
-    let labels = Labels::new(parents, label);
-    for (pair, z) in question.chunks_exact(2).zip(answer) {
-        *z = labels.lca(pair[0], pair[1]);
-    }
+    let tour = Tour::new(parents.len(), label, tour);
+    let (pairs, cells) = (question.as_chunks().0, answer.as_chunks_mut().0);
+    Labels::new(parents, label).answer(&tour, pairs, cells);
     Ok(())
 }
 
-/// The carrier of each pair, by the tour table.
+/// The carrier of each pair and its branches, by the tour table.
 pub fn pairs_by_tour(
     parents: &[u16],
     label: &[u16],
@@ -65,26 +66,12 @@ pub fn pairs_by_tour(
 ) -> Result<(), Refusal> {
     let misfit = pairs_misfit(question, answer);
     admit(parents, [label, tour, lift, order], work, question, misfit)?;
-    let n = parents.len();
-    let [e, r, rows] = tour::sections(tour, n);
-    let level = &label[2 * n..3 * n];
-    for (pair, z) in question.chunks_exact(2).zip(answer) {
-        let (i, j) = (r[pair[0] as usize] as usize, r[pair[1] as usize] as usize);
-        let (i, j) = (i.min(j), i.max(j));
-        let k = log2(j - i + 1);
-        let row = k * (2 * n - 1);
-        let a = e[rows[row + i] as usize];
-        let b = e[rows[row + j + 1 - (1 << k)] as usize];
-        *z = if level[a as usize] <= level[b as usize] {
-            a
-        } else {
-            b
-        };
-    }
+    let tour = Tour::new(parents.len(), label, tour);
+    by_tour::answer(&tour, question.as_chunks().0, answer.as_chunks_mut().0);
     Ok(())
 }
 
-/// The carrier of each pair, by the lift table.
+/// The carrier of each pair and its branches, by the lift table.
 pub fn pairs_by_lifts(
     parents: &[u16],
     label: &[u16],
@@ -98,20 +85,9 @@ pub fn pairs_by_lifts(
     let misfit = pairs_misfit(question, answer);
     admit(parents, [label, tour, lift, order], work, question, misfit)?;
     let n = parents.len();
-    let level = &label[2 * n..3 * n];
-    // Rows that pass the deepest level raise every node to the root, and change no answer.
-    let rows = &lift[..n * (log2(label::deepest(label, n) as usize) + 1).min(log2(n) + 1)];
-    let (mut asked, mut answered) = (
-        question.chunks_exact(2 * AT_ONCE),
-        answer.chunks_exact_mut(AT_ONCE),
-    );
-    for (pairs, z) in (&mut asked).zip(&mut answered) {
-        z.copy_from_slice(&raise::<AT_ONCE>(rows, level, pairs));
-    }
-    let rest = asked.remainder().chunks_exact(2);
-    for (pair, z) in rest.zip(answered.into_remainder()) {
-        [*z] = raise(rows, level, pair);
-    }
+    let (rows, level) = (by_lifts::rows(lift, label, n), &label[2 * n..3 * n]);
+    let (pairs, cells) = (question.as_chunks().0, answer.as_chunks_mut().0);
+    by_lifts::answer(rows, level, pairs, cells);
     Ok(())
 }
 
@@ -142,7 +118,7 @@ pub fn list(
             high
         };
     }
-    answer[0] = Labels::new(parents, label).lca(low, high);
+    answer[0] = Labels::new(parents, label).carrier([low, high]);
     Ok(())
 }
 
