@@ -20,6 +20,17 @@ pub struct Onto {
     pub before: u16,
 }
 
+impl Onto {
+    /// A part that is on that path.
+    #[inline(always)]
+    fn already(part: u16) -> Self {
+        Onto {
+            at: part,
+            before: part,
+        }
+    }
+}
+
 impl<'a> Labels<'a> {
     #[inline(always)]
     pub fn new(parents: &'a [u16], label: &'a [u16]) -> Self {
@@ -46,26 +57,33 @@ impl<'a> Labels<'a> {
 
     /// Steps 1 to 3 for one pair.
     #[inline(always)]
-    pub fn sides(&self, pair: [u16; 2]) -> [Onto; 2] {
-        let inlabel = pair.map(|x| self.inlabel[x as usize]);
-        let below = below(upto_one, inlabel, pair.map(|x| self.ascendant[x as usize]));
-        [0, 1].map(|i| self.onto(pair[i], passed(upto_one, inlabel[i], below[i]), below[i]))
+    pub fn sides(&self, [x, y]: [u16; 2]) -> [Onto; 2] {
+        let (ix, iy) = (self.inlabel[x as usize], self.inlabel[y as usize]);
+        let (ax, ay) = (self.ascendant[x as usize], self.ascendant[y as usize]);
+        let [bx, by] = below(upto_one, [ix, iy], [ax, ay]);
+        [
+            self.onto(x, passed(upto_one, ix, bx), bx),
+            self.onto(y, passed(upto_one, iy, by), by),
+        ]
     }
 
     /// The carrier of one pair: of where both come onto its path the one of lesser LEVEL (step 4).
     #[inline(always)]
     pub fn carrier(&self, pair: [u16; 2]) -> u16 {
-        let by_level = |x: u16| (self.level[x as usize] as u32) << 16 | x as u32;
-        let [x, y] = self.sides(pair).map(|side| by_level(side.at));
-        x.min(y) as u16
+        let by_level = |side: Onto| (self.level[side.at as usize] as u32) << 16 | side.at as u32;
+        let [x, y] = self.sides(pair);
+        by_level(x).min(by_level(y)) as u16
     }
 
     /// The carrier of each pair and its branches.
     pub fn answer(&self, tour: &Tour, pairs: &[[u16; 2]], answer: &mut [[u16; 3]]) {
         let (mut paths, mut open) = (Paths::new(), Open::new());
         for (pairs, cells) in pairs.chunks(TOGETHER).zip(answer.chunks_mut(TOGETHER)) {
-            paths.read(self, pairs);
-            open.meet(self, tour, &paths, pairs, cells);
+            if paths.read(self, pairs) == 0 {
+                open.meet(tour, pairs, cells, |_, pair| pair.map(Onto::already));
+            } else {
+                open.meet(tour, pairs, cells, |i, pair| paths.climb(self, i, pair));
+            }
             open.close(tour, cells.as_flattened_mut());
         }
     }
@@ -114,9 +132,9 @@ impl Paths {
         Paths { passed, below }
     }
 
-    /// Steps 1 and 2.
+    /// Steps 1 and 2. Gives 0 if no part passes any path: if all are on the carriers' own.
     #[inline(always)]
-    fn read(&mut self, labels: &Labels, pairs: &[[u16; 2]]) {
+    fn read(&mut self, labels: &Labels, pairs: &[[u16; 2]]) -> u16 {
         let ([px, py], [bx, by]) = (&mut self.passed, &mut self.below);
         let count = pairs.len().min(TOGETHER);
         let pairs = &pairs[..count];
@@ -125,11 +143,21 @@ impl Paths {
             (px[i], bx[i]) = (labels.inlabel[x], labels.ascendant[x]);
             (py[i], by[i]) = (labels.inlabel[y], labels.ascendant[y]);
         }
+        let mut any = 0;
         for i in 0..count {
             [bx[i], by[i]] = below(upto, [px[i], py[i]], [bx[i], by[i]]);
             px[i] = passed(upto, px[i], bx[i]);
             py[i] = passed(upto, py[i], by[i]);
+            any |= bx[i] | by[i];
         }
+        any
+    }
+
+    /// Step 3 for pair i.
+    #[inline(always)]
+    fn climb(&self, labels: &Labels, i: usize, [x, y]: [u16; 2]) -> [Onto; 2] {
+        let ([px, py], [bx, by]) = (&self.passed, &self.below);
+        [labels.onto(x, px[i], bx[i]), labels.onto(y, py[i], by[i])]
     }
 }
 
@@ -161,24 +189,21 @@ impl Open {
         }
     }
 
-    /// Steps 3 and 4. Each side's branch is the part before it comes onto the path, but where the pair is left open. That is noted without a
+    /// Step 4, after step 3 by `climb`. Each side's branch is the part before it comes onto the path, but where the pair is left open. That is noted without a
     /// branch: what is noted of a pair that isn't is overwritten.
     #[inline(always)]
     fn meet(
         &mut self,
-        labels: &Labels,
         tour: &Tour,
-        paths: &Paths,
         pairs: &[[u16; 2]],
         answer: &mut [[u16; 3]],
+        climb: impl Fn(usize, [u16; 2]) -> [Onto; 2],
     ) {
-        let ([px, py], [bx, by]) = (&paths.passed, &paths.below);
         let count = pairs.len().min(TOGETHER);
         let (pairs, answer) = (&pairs[..count], &mut answer[..count]);
         let mut open = 0;
         for i in 0..count {
-            let x = labels.onto(pairs[i][0], px[i], bx[i]);
-            let y = labels.onto(pairs[i][1], py[i], by[i]);
+            let [x, y] = climb(i, pairs[i]);
             let (first_x, first_y) = (tour.r[x.at as usize], tour.r[y.at as usize]);
             let first = first_x.min(first_y);
             let carrier = tour.e[first as usize];
