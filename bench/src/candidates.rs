@@ -26,7 +26,18 @@ pub type Subtree = for<'a> fn(In, In, In, In, In<'a>, Out, usize) -> Stretch<'a>
 /// parents, work, counts, totals
 pub type Totals = fn(In, Out, &[u32], &mut [u64]) -> Outcome;
 
+/// Who is asked.
+#[derive(Clone, Copy)]
+pub enum Who {
+    Proved,
+    Rust,
+    Climber,
+}
+/// How many they are.
+pub const ASKED: usize = 3;
+
 pub struct Calls {
+    pub who: Who,
     pub check: Check,
     pub build: Build,
     pub compare: Compare,
@@ -41,7 +52,7 @@ pub struct Calls {
 pub const ROUTES: [&str; 3] = ["labels", "tour", "lifts"];
 
 macro_rules! calls {
-    ($from:path) => {{
+    ($who:expr, $from:path) => {{
         use $from as from;
         macro_rules! ask {
             ($call:path) => {
@@ -53,6 +64,7 @@ macro_rules! calls {
             };
         }
         Calls {
+            who: $who,
             check: |p, w| {
                 from::check(p, w)
                     .map(|()| 0)
@@ -90,6 +102,6 @@ macro_rules! calls {
 }
 
 /// The proved library, through its C interface.
-pub static PROVED: Calls = calls!(lca::calls);
+pub static PROVED: Calls = calls!(Who::Proved, lca::calls);
 /// The independent version in safe Rust.
-pub static RUST: Calls = calls!(fast);
+pub static RUST: Calls = calls!(Who::Rust, fast);

@@ -1,12 +1,12 @@
 //! What is measured on one sheet.
 
-use std::hint::black_box;
-
-use crate::buffers::Buffers;
-use crate::candidates::{Calls, Outcome, PROVED, ROUTES, RUST};
-use crate::climb;
+use crate::candidates::{Calls, PROVED, ROUTES, RUST};
 use crate::measure::{in_turns, Budget};
-use crate::sheets::{parts, Draw, Shape};
+use crate::sheets::Shape;
+
+mod calls;
+
+use calls::State;
 
 /// Pairs in a call.
 pub const PAIRS: [usize; 3] = [1, 100, 10_000];
@@ -22,148 +22,12 @@ pub struct Figure {
     pub beside: Option<f64>,
 }
 
-/// All figures of one sheet.
+/// All figures of one sheet, or those of the calls for pairs.
 pub struct Sheet {
     pub n: usize,
     pub shape: Shape,
     pub cells: usize,
     pub figures: Vec<Figure>,
-}
-
-/// The buffers of one sheet, lent to every candidate in turn.
-struct State {
-    own: Buffers,
-    copy: Buffers,
-    question: Vec<u16>,
-    answer: Vec<u16>,
-    trail: Vec<u16>,
-}
-
-fn accepted(outcome: Outcome) {
-    black_box(outcome).expect("the call is accepted");
-}
-
-fn check(calls: &Calls, s: &mut State) {
-    accepted((calls.check)(&s.own.parents, &mut s.own.work));
-}
-
-fn build(calls: &Calls, s: &mut State) {
-    let b = &mut s.own;
-    accepted((calls.build)(
-        &b.parents,
-        &mut b.label,
-        &mut b.tour,
-        &mut b.lift,
-        &mut b.order,
-        &mut b.work,
-    ));
-}
-
-fn compare(calls: &Calls, s: &mut State) {
-    let b = &mut s.own;
-    accepted((calls.compare)(
-        &b.parents,
-        &b.label,
-        &b.tour,
-        &b.lift,
-        &b.order,
-        &mut b.work,
-    ));
-}
-
-fn pairs(calls: &Calls, route: usize, count: usize, s: &mut State) {
-    let (b, question, answer) = (
-        &mut s.own,
-        &s.question[..2 * count],
-        &mut s.answer[..3 * count],
-    );
-    let [label, tour, lift, order] = [&b.label, &b.tour, &b.lift, &b.order];
-    accepted((calls.pairs[route])(
-        &b.parents,
-        label,
-        tour,
-        lift,
-        order,
-        &mut b.work,
-        question,
-        answer,
-    ));
-}
-
-fn list(calls: &Calls, s: &mut State) {
-    let (b, question, answer) = (&mut s.own, &s.question[..LISTED], &mut s.answer[..1]);
-    let [label, tour, lift, order] = [&b.label, &b.tour, &b.lift, &b.order];
-    accepted((calls.list)(
-        &b.parents,
-        label,
-        tour,
-        lift,
-        order,
-        &mut b.work,
-        question,
-        answer,
-    ));
-}
-
-fn trail(calls: &Calls, s: &mut State) {
-    let (b, question, answer) = (&mut s.own, &s.question[..2], &mut s.answer[..1]);
-    let [label, tour, lift, order] = [&b.label, &b.tour, &b.lift, &b.order];
-    accepted((calls.trail)(
-        &b.parents,
-        label,
-        tour,
-        lift,
-        order,
-        &mut b.work,
-        question,
-        answer,
-        &mut s.trail,
-    ));
-}
-
-fn subtree(calls: &Calls, s: &mut State) {
-    let (b, part) = (&mut s.own, s.question[0] as usize);
-    let [label, tour, lift, order] = [&b.label, &b.tour, &b.lift, &b.order];
-    let found = (calls.subtree)(&b.parents, label, tour, lift, order, &mut b.work, part);
-    black_box(found).expect("the call is accepted");
-}
-
-fn totals(calls: &Calls, s: &mut State) {
-    let b = &mut s.own;
-    accepted((calls.totals)(
-        &b.parents,
-        &mut b.work,
-        &b.counts,
-        &mut b.totals,
-    ));
-}
-
-fn byte_compare(s: &mut State) {
-    black_box(s.own.tables() == s.copy.tables());
-}
-
-fn memory_copy(s: &mut State) {
-    s.copy.label.copy_from_slice(&s.own.label);
-    s.copy.tour.copy_from_slice(&s.own.tour);
-    s.copy.lift.copy_from_slice(&s.own.lift);
-    s.copy.order.copy_from_slice(&s.own.order);
-    black_box(&mut s.copy);
-}
-
-fn climb_pairs(count: usize, s: &mut State) {
-    let question = s.question[..2 * count].chunks_exact(2);
-    for (pair, z) in question.zip(s.answer.chunks_exact_mut(3)) {
-        z.copy_from_slice(&climb::pair(&s.own.parents, pair[0], pair[1]));
-    }
-    black_box(&mut s.answer);
-}
-
-fn climb_pair(s: &mut State) {
-    climb_pairs(1, s);
-}
-
-fn climb_list(s: &mut State) {
-    black_box(climb::list(&s.own.parents, &s.question[..LISTED]));
 }
 
 /// A call of each implementation, and what is measured beside it.
@@ -191,7 +55,7 @@ fn both(
 
 /// Pairs by one route: per pair at each count, and what a further pair costs.
 fn by_route(budget: Budget, state: &mut State, route: usize, climbed: f64) -> Vec<Figure> {
-    let call = |calls: &'static Calls, count| move |s: &mut State| pairs(calls, route, count, s);
+    let call = |of: &'static Calls, count| move |s: &mut State| calls::pairs(of, route, count, s);
     let [one, some, many] = PAIRS.map(|count| (call(&PROVED, count), call(&RUST, count)));
     let rounds = in_turns(
         budget,
@@ -224,35 +88,48 @@ fn by_route(budget: Budget, state: &mut State, route: usize, climbed: f64) -> Ve
     figures
 }
 
+/// Pairs by every route, with the climber beside them.
+fn by_routes(budget: Budget, state: &mut State) -> Vec<Figure> {
+    let climb = |s: &mut State| calls::climb_pairs(PAIRS[1], s);
+    let climbed = in_turns(budget, state, [&climb]).median(|[t]| t / PAIRS[1] as f64);
+    let routes = 0..ROUTES.len();
+    routes
+        .flat_map(|route| by_route(budget, state, route, climbed))
+        .collect()
+}
+
 /// Everything on one sheet.
 pub fn sheet(budget: Budget, n: usize, shape: Shape) -> Sheet {
-    let own = Buffers::new(shape.sheet(n));
-    let mut draw = Draw::new(n as u64 + 1);
-    let state = &mut State {
-        copy: own.clone(),
-        question: parts(2 * PAIRS[2], n, &mut draw),
-        answer: vec![0; 3 * PAIRS[2]],
-        trail: vec![0; lca::cells::TRAIL],
-        own,
-    };
+    let state = &mut State::new(shape.sheet(n), PAIRS[2]);
+    let (copy, equal) = (calls::memory_copy, calls::byte_compare);
     let mut figures = vec![
-        both(budget, state, "check", check, None),
-        both(budget, state, "build", build, Some(memory_copy)),
-        both(budget, state, "compare", compare, Some(byte_compare)),
+        both(budget, state, "check", calls::check, None),
+        both(budget, state, "build", calls::build, Some(copy)),
+        both(budget, state, "compare", calls::compare, Some(equal)),
     ];
-    let climb_some = |s: &mut State| climb_pairs(100, s);
-    let climbed = in_turns(budget, state, [&climb_some]).median(|[t]| t / 100.0);
-    for route in 0..ROUTES.len() {
-        figures.extend(by_route(budget, state, route, climbed));
-    }
-    figures.push(both(budget, state, "trail", trail, Some(climb_pair)));
-    figures.push(both(budget, state, "list of 100", list, Some(climb_list)));
-    figures.push(both(budget, state, "subtree", subtree, None));
-    figures.push(both(budget, state, "totals", totals, None));
+    figures.extend(by_routes(budget, state));
+    let (pair, list) = (calls::climb_pair, calls::climb_list);
+    figures.extend([
+        both(budget, state, "trail", calls::trail, Some(pair)),
+        both(budget, state, "list of 100", calls::list, Some(list)),
+        both(budget, state, "subtree", calls::subtree, None),
+        both(budget, state, "totals", calls::totals, None),
+    ]);
     Sheet {
         n,
         shape,
         cells: state.own.table_cells(),
         figures,
+    }
+}
+
+/// The calls for pairs on one sheet.
+pub fn pairs(budget: Budget, n: usize, shape: Shape) -> Sheet {
+    let state = &mut State::new(shape.sheet(n), PAIRS[2]);
+    Sheet {
+        n,
+        shape,
+        figures: by_routes(budget, state),
+        cells: state.own.table_cells(),
     }
 }

@@ -9,6 +9,7 @@ mod fast;
 mod figures;
 mod machine;
 mod measure;
+mod pool;
 mod report;
 mod selfcheck;
 mod sheets;
@@ -17,7 +18,7 @@ use std::process::ExitCode;
 use std::time::Duration;
 
 use measure::Budget;
-use sheets::{SHAPES, SIZES};
+use sheets::{Shape, SHAPES, SIZES};
 
 const USAGE: &str = "usage: lca-bench [--quick] [--svg FILE]";
 
@@ -53,16 +54,22 @@ fn budget(quick: bool) -> Budget {
 fn run() -> Result<(), String> {
     let options = options()?;
     selfcheck::small(if options.quick { 50 } else { 300 })?;
-    let mut sheets = Vec::new();
+    let (mut sheets, mut deep) = (Vec::new(), Vec::new());
     for n in SIZES {
         for shape in SHAPES {
             selfcheck::measured(&format!("{} of {n}", shape.name()), &shape.sheet(n))?;
             sheets.push(figures::sheet(budget(options.quick), n, shape));
         }
+        selfcheck::measured(&format!("deep of {n}"), &Shape::Deep.sheet(n))?;
+        deep.push(figures::pairs(budget(options.quick), n, Shape::Deep));
     }
     let machine = machine::line();
     println!("{machine}\n\n{}", report::LEGEND);
-    println!("{}", report::times(&sheets));
+    println!("{}", report::times(&sheets, &SHAPES));
+    println!(
+        "Pairs on deep sheets:\n\n{}",
+        report::times(&deep, &[Shape::Deep])
+    );
     print!("{}", report::growth(&sheets));
     match options.svg {
         Some(file) => std::fs::write(&file, chart::svg(&sheets, &machine))

@@ -3,7 +3,7 @@
 use std::fmt::Write;
 
 use crate::figures::Sheet;
-use crate::sheets::{SHAPES, SIZES};
+use crate::sheets::{Shape, SHAPES, SIZES};
 
 /// Three digits and a unit.
 fn time(ns: f64) -> String {
@@ -29,11 +29,12 @@ pub fn count(n: usize) -> String {
     }
 }
 
-fn row(out: &mut String, cells: &[String]) {
+pub fn row(out: &mut String, cells: &[String]) {
     writeln!(out, "| {} |", cells.join(" | ")).expect("a string takes all");
 }
 
-fn head(out: &mut String, names: &[String], words: usize) {
+/// Names of columns, of which the first so many hold words.
+pub fn head(out: &mut String, names: &[String], words: usize) {
     row(out, names);
     let rule = (0..names.len()).map(|i| if i < words { "---" } else { "---:" }.to_owned());
     row(out, &rule.collect::<Vec<_>>());
@@ -42,21 +43,22 @@ fn head(out: &mut String, names: &[String], words: usize) {
 /// What the columns of `times` say.
 pub const LEGEND: &str = "\
 Times are of a whole call; of pairs, of a whole call divided by its pairs, and 'each further one' is what a call of 10,000 pairs takes more than one of
-100, a pair. Proved: the library through its C interface. Rust: the independent version. Ratio: proved to Rust, in the same rounds. Beside build: a memory
-copy of the four tables; beside compare: their byte compare with a copy; beside pairs, trail and list: the plain climber, which tests nothing. Trail and
-subtree are of one pair and of one part a call; totals are of all parts, and lent no tables.
+100, a pair. A pair's answer is its carrier and both branches, and each call asks for other pairs. Proved: the library through its C interface. Rust: the
+independent version. Ratio: proved to Rust, in the same rounds. Beside build: a memory copy of the four tables; beside compare: their byte compare with a
+copy; beside pairs, trail and list: the plain climber, which tests nothing. Trail and subtree are of one pair and of one part a call; totals are of all parts,
+and lent no tables.
 ";
 
-/// A row for each size and call; for each shape the proved library, the Rust version, their ratio and what stands beside.
-pub fn times(sheets: &[Sheet]) -> String {
+/// A row for each size and call; for each of these shapes the proved library, the Rust version, their ratio and what stands beside.
+pub fn times(sheets: &[Sheet], shapes: &[Shape]) -> String {
     let mut out = String::new();
     let mut names = vec!["n".to_owned(), "call".to_owned()];
-    for shape in SHAPES {
+    for shape in shapes {
         let columns = ["proved", "Rust", "ratio", "beside"];
         names.extend(columns.map(|column| format!("{}: {column}", shape.name())));
     }
     head(&mut out, &names, 2);
-    for of_size in sheets.chunks(SHAPES.len()) {
+    for of_size in sheets.chunks(shapes.len()) {
         for i in 0..of_size[0].figures.len() {
             let mut cells = vec![count(of_size[0].n), of_size[0].figures[i].call.clone()];
             for figure in of_size.iter().map(|sheet| &sheet.figures[i]) {

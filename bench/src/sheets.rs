@@ -23,10 +23,12 @@ pub enum Shape {
     Chain,
     Star,
     Random,
+    Deep,
 }
 
 /// Parts of the sheets that are measured.
 pub const SIZES: [usize; 4] = [64, 512, 4_096, 16_384];
+/// The shapes on which every call is measured. On deep sheets, the calls for pairs are.
 pub const SHAPES: [Shape; 3] = [Shape::Chain, Shape::Star, Shape::Random];
 
 impl Shape {
@@ -35,15 +37,18 @@ impl Shape {
             Shape::Chain => "chain",
             Shape::Star => "star",
             Shape::Random => "random",
+            Shape::Deep => "deep",
         }
     }
 
-    /// Chain and star in natural order, the root 0; random: each node's parent is any earlier one, then all numbers are shuffled.
+    /// Chain and star in natural order, the root 0; random: each node's parent is any earlier one, then all numbers are shuffled; deep: the
+    /// same, but each node's parent is one of the 8 before it, so that depth grows in proportion to n.
     pub fn sheet(self, n: usize) -> Vec<u16> {
         match self {
             Shape::Chain => (0..n).map(|v| v.saturating_sub(1) as u16).collect(),
             Shape::Star => vec![0; n],
             Shape::Random => random(n, &mut Draw::new(n as u64)),
+            Shape::Deep => deep(n, &mut Draw::new(n as u64)),
         }
     }
 }
