@@ -1,6 +1,7 @@
 //! Measures the proved library against an independent Rust version of the same calls. README.md says what and how.
 #![forbid(unsafe_code)]
 
+mod branches;
 mod buffers;
 mod candidates;
 mod chart;
@@ -20,25 +21,31 @@ use std::time::Duration;
 use measure::Budget;
 use sheets::{Shape, SHAPES, SIZES};
 
-const USAGE: &str = "usage: lca-bench [--quick] [--svg FILE]";
+const USAGE: &str = "usage: lca-bench [--quick] [--svg FILE], or lca-bench [--quick] --branches";
 
 struct Options {
     quick: bool,
+    branches: bool,
     svg: Option<String>,
 }
 
 fn options() -> Result<Options, String> {
     let mut options = Options {
         quick: false,
+        branches: false,
         svg: None,
     };
     let mut words = std::env::args().skip(1);
     while let Some(word) = words.next() {
         match word.as_str() {
             "--quick" => options.quick = true,
+            "--branches" => options.branches = true,
             "--svg" => options.svg = Some(words.next().ok_or(USAGE)?),
             _ => return Err(USAGE.into()),
         }
+    }
+    if options.branches && options.svg.is_some() {
+        return Err(USAGE.into());
     }
     Ok(options)
 }
@@ -53,6 +60,9 @@ fn budget(quick: bool) -> Budget {
 
 fn run() -> Result<(), String> {
     let options = options()?;
+    if options.branches {
+        return branches::run(options.quick);
+    }
     selfcheck::small(if options.quick { 50 } else { 300 })?;
     let (mut sheets, mut deep) = (Vec::new(), Vec::new());
     for n in SIZES {

@@ -30,6 +30,7 @@ pub enum Shape {
 pub const SIZES: [usize; 4] = [64, 512, 4_096, 16_384];
 /// The shapes on which every call is measured. On deep sheets, the calls for pairs are.
 pub const SHAPES: [Shape; 3] = [Shape::Chain, Shape::Star, Shape::Random];
+pub const ALL_SHAPES: [Shape; 4] = [Shape::Chain, Shape::Star, Shape::Random, Shape::Deep];
 
 impl Shape {
     pub fn name(self) -> &'static str {
