@@ -61,7 +61,7 @@ impl<'a> Tour<'a> {
     pub fn cover(&self, from: &Cells, to: &Cells, count: usize, blocks: &mut Blocks) {
         let count = count.min(TOGETHER);
         let mut rows = [0; TOGETHER];
-        lengths(&from[..count], &to[..count], &mut rows[..count]);
+        logs(&from[..count], &to[..count], &mut rows[..count]);
         for i in 0..count {
             let (first, last) = self.starts[rows[i] as usize % 16];
             blocks.left[i] = self.rows[(first + from[i] as u32) as usize];
@@ -77,16 +77,17 @@ impl<'a> Tour<'a> {
         self.before(from, comes)
     }
 
-    /// What is visited right before a position that isn't the stretch's first one.
+    /// What is visited right before a position of a stretch; at it, where it is the stretch's first one. There the carrier is visited at `from`
+    /// itself, and is its own branch.
     #[inline(always)]
     pub fn before(&self, from: u16, at: u16) -> u16 {
         self.e[at as usize - (at > from) as usize]
     }
 }
 
-/// The row for each stretch: its length's log to base 2. A number of at most 24 bits has it in its exponent as a float, which is vector code;
-/// the processor's own log waits for what was in the register before.
-fn lengths(from: &[u16], to: &[u16], rows: &mut [u16]) {
+/// The row for each stretch: its length's log to base 2. A number of at most 24 bits has that as its exponent when it is a float, which becomes
+/// vector code; the processor's own instruction for it waits for what was in the register before.
+fn logs(from: &[u16], to: &[u16], rows: &mut [u16]) {
     for ((&from, &to), row) in from.iter().zip(to).zip(rows) {
         let length = to.wrapping_sub(from).wrapping_add(1) as i16;
         *row = ((length as f32).to_bits() >> 23).wrapping_sub(127) as u16;
