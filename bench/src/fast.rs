@@ -47,7 +47,7 @@ pub(crate) fn log2(x: usize) -> usize {
     (usize::BITS - 1 - (x | 1).leading_zeros()) as usize
 }
 
-/// All ones, or none: a choice by masks becomes vector code, where `if` becomes a branch or a load from a chosen address.
+/// All ones, or none: a choice by masks becomes vector code, where `if` becomes a jump or a load from a chosen address.
 #[inline(always)]
 pub(crate) fn mask(yes: bool) -> u16 {
     (yes as u16).wrapping_neg()

@@ -189,8 +189,8 @@ impl Open {
         }
     }
 
-    /// Step 4, after step 3 by `climb`. Each side's branch is the part before it comes onto the path, but where the pair is left open. That is noted without a
-    /// branch: what is noted of a pair that isn't is overwritten.
+    /// Step 4, after step 3 by `climb`. Each side's branch is the part before it comes onto the path, but where the pair is left open. That is
+    /// noted without a jump: what is noted of a pair that isn't open is overwritten.
     #[inline(always)]
     fn meet(
         &mut self,

@@ -53,7 +53,7 @@ pub fn fill(
 }
 
 /// The nodes in an order in which children stand before their parent, and SIZE; false if a node is on a loop. A node is put in once its
-/// last child is taken, without a branch. `work` is cut into `[count, order, size]`.
+/// last child is taken, without a jump. `work` is cut into `[count, order, size]`.
 pub fn peel(parents: &[u16], root: u16, work: [&mut [u16]; 3]) -> bool {
     let n = parents.len();
     let [count, order, size] = work.map(|part| &mut part[..n]);
@@ -96,7 +96,7 @@ pub fn children(parents: &[u16], a: &mut [u16], b: &mut [u16]) {
     }
 }
 
-/// Puts the nodes without children into `order`, without a branch, and gives how many there are.
+/// Puts the nodes without children into `order`, without a jump, and gives how many there are.
 #[inline(always)]
 pub fn leaves(count: &[u16], order: &mut [u16]) -> usize {
     let mut found = 0;

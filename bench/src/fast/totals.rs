@@ -56,7 +56,7 @@ const AT_ONCE: usize = 8;
 /// Takes leaves off until there are none: puts the nodes taken into `order`, children before their parent, and each one's parent beside it
 /// into `above`. Gives their number, which is all but the root unless there is a loop. `count` has before how many name each node.
 ///
-/// As in `label::peel` a node is put in without a branch. Of nodes in a row that have one parent the count is lowered once for all, so that
+/// As in `label::peel` a node is put in without a jump. Of nodes in a row that have one parent the count is lowered once for all, so that
 /// they need not wait for one another.
 fn take_off(parents: &[u16], work: [&mut [u16]; 3]) -> usize {
     let n = parents.len();
