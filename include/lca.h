@@ -232,8 +232,8 @@ uint32_t lca_compare(
  *
  *                           a call with one pair,   each further pair of the same call,
  *   parts    table cells    by any route            by labels   by tour   by lifts
- *       64         1,976      1 microsecond         9 ns        3 ns       9 ns
- *   16,384       901,104    340 microseconds        9 ns        5 ns      14 ns
+ *       64         1,976      2 microseconds        31 ns       19 ns      33 ns
+ *   16,384       901,104    350 microseconds        29 ns       22 ns      36 ns
  */
 
 /* The carrier of each pair and its branches towards x and y, by labels. A further pair takes constant time. */

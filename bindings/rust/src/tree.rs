@@ -14,8 +14,8 @@ mod questions;
 ///
 /// | parts | a call with one pair, by any route | each further pair of the same call: by labels | by tour | by lifts |
 /// |---:|---:|---:|---:|---:|
-/// | 64 | 1 µs | 9 ns | 3 ns | 9 ns |
-/// | 16,384 | 340 µs | 9 ns | 5 ns | 14 ns |
+/// | 64 | 2 µs | 31 ns | 19 ns | 33 ns |
+/// | 16,384 | 350 µs | 29 ns | 22 ns | 36 ns |
 ///
 /// Each call allocates its own buffers, which is not in these figures: that costs far less than the comparison, and lets threads share a
 /// tree.

@@ -64,8 +64,8 @@ impl Tree {
 
     /// The carrier of one pair and its branches towards x and y, by labels.
     ///
-    /// This is a call with one pair, and nearly all its time is the comparison of the tables: 1 µs at 64 parts and 340 µs at 16,384, where a
-    /// further pair of the same call costs 9 ns. So for more pairs there is [`pairs`](Tree::pairs).
+    /// This is a call with one pair, and nearly all its time is the comparison of the tables: 2 µs at 64 parts and 350 µs at 16,384, where a
+    /// further pair of the same call costs 29 ns. So for more pairs there is [`pairs`](Tree::pairs).
     ///
     /// ```
     /// # fn main() -> Result<(), lca::Refusal> {
