@@ -31,17 +31,7 @@ struct Way {
     answer: Answer,
 }
 
-const fn carrier(name: &'static str, answer: Answer) -> Way {
-    let cells = 1;
-    Way {
-        name,
-        cells,
-        answer,
-    }
-}
-
-const fn all(name: &'static str, answer: Answer) -> Way {
-    let cells = 3;
+const fn way(cells: usize, name: &'static str, answer: Answer) -> Way {
     Way {
         name,
         cells,
@@ -50,60 +40,67 @@ const fn all(name: &'static str, answer: Answer) -> Way {
 }
 
 const WAYS: [Way; 14] = [
-    carrier("labels: carrier alone", |v, pairs, answer| {
+    way(1, "labels: carrier alone", |v, pairs, answer| {
         carriers(pairs, answer, |pair| v.labels.carrier(pair))
     }),
-    all("labels + lift rows", |v, pairs, answer| {
+    way(3, "labels + lift rows", |v, pairs, answer| {
         each(pairs, answer, |pair| {
             v.by_lifts(v.labels.carrier(pair), pair)
         })
     }),
-    all("labels + tour comes back", |v, pairs, answer| {
+    way(3, "labels + tour comes back", |v, pairs, answer| {
         each(pairs, answer, |pair| {
             v.by_return(v.labels.carrier(pair), pair)
         })
     }),
-    all("labels + HEAD, or tour comes back", |v, pairs, answer| {
-        each(pairs, answer, |pair| v.by_head(pair))
-    }),
-    all(
+    way(
+        3,
+        "labels + HEAD, or tour comes back",
+        |v, pairs, answer| each(pairs, answer, |pair| v.by_head(pair)),
+    ),
+    way(
+        3,
         "labels, in stages (the Rust version)",
         |v, pairs, answer| v.labels.answer(&v.tour, pairs, answer),
     ),
-    carrier("tour: carrier alone", |v, pairs, answer| {
+    way(1, "tour: carrier alone", |v, pairs, answer| {
         carriers(pairs, answer, |pair| v.between(pair).carrier)
     }),
-    all("tour + lift rows", |v, pairs, answer| {
+    way(3, "tour + lift rows", |v, pairs, answer| {
         each(pairs, answer, |pair| {
             v.by_lifts(v.between(pair).carrier, pair)
         })
     }),
-    all("tour + tour comes back", |v, pairs, answer| {
+    way(3, "tour + tour comes back", |v, pairs, answer| {
         each(pairs, answer, |pair| {
             v.by_return(v.between(pair).carrier, pair)
         })
     }),
-    all(
+    way(
+        3,
         "tour + own position, then tour comes back",
         |v, pairs, answer| each(pairs, answer, |pair| v.by_position(pair)),
     ),
-    all("tour, in stages (the Rust version)", |v, pairs, answer| {
-        by_tour::answer(&v.tour, pairs, answer)
-    }),
-    carrier("lifts: carrier alone", |v, pairs, answer| {
+    way(
+        3,
+        "tour, in stages (the Rust version)",
+        |v, pairs, answer| by_tour::answer(&v.tour, pairs, answer),
+    ),
+    way(1, "lifts: carrier alone", |v, pairs, answer| {
         v.at_once(pairs, answer, |cells, _, found| cells[0] = found[0])
     }),
-    all("lifts + lift rows", |v, pairs, answer| {
+    way(3, "lifts + lift rows", |v, pairs, answer| {
         v.at_once(pairs, answer, |cells, pair, found| {
             *cells = v.by_lifts(found[0], pair)
         })
     }),
-    all("lifts + tour comes back", |v, pairs, answer| {
+    way(3, "lifts + tour comes back", |v, pairs, answer| {
         v.at_once(pairs, answer, |cells, pair, found| {
             *cells = v.by_return(found[0], pair)
         })
     }),
-    all(
+    way(
+        3,
         "lifts + own sides (the Rust version)",
         |v, pairs, answer| v.at_once(pairs, answer, |cells, _, found| *cells = found),
     ),
