@@ -1,5 +1,6 @@
 -- By which branch (document 02, 2026-03): the part directly below a carrier on the way to a part. By its property, and found by a plain climber. With it a
--- pair's answer, its carrier and both branches, and the rule by which each route finds the branches from its own answer. No rule knows the carrier.
+-- pair's answer, its carrier and both branches, and the rule by which each route finds the branches from its own answer: it is handed the carrier that the
+-- route found, and reads the sheet's entries and the label table.
 -- Assumes nothing.
 use Prim.Native.Nat.{ℕ, _-_}
 use mathlib.Core.Path.{_≡_}
