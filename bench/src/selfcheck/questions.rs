@@ -8,7 +8,7 @@ use crate::sheets::{parts, Draw};
 
 pub const BY_ROUTE: [fn(&Calls) -> Ask; 3] = [|c| c.pairs[0], |c| c.pairs[1], |c| c.pairs[2]];
 
-/// What an answer's cells hold before a call.
+/// What an answer's or trail's cells hold before a call.
 const BEFORE: u16 = 7;
 
 /// One question by one call, with an answer of so many cells.
@@ -57,7 +57,7 @@ pub fn answers(what: &str, own: &Buffers, question: &[u16]) -> Checked {
 }
 
 fn trail(what: &str, own: &Buffers, pair: &[u16], carrier: u16) -> Checked {
-    let state = (own.clone(), vec![BEFORE; 1], vec![7; lca::cells::TRAIL]);
+    let state = (own.clone(), vec![BEFORE; 1], vec![BEFORE; lca::cells::TRAIL]);
     let (outcome, (_, answer, rows)) = same(what, &state, |calls, (b, answer, rows)| {
         let [label, tour, lift, order] = [&b.label, &b.tour, &b.lift, &b.order];
         let (parents, work) = (&b.parents, &mut b.work);
