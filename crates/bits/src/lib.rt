@@ -1,6 +1,8 @@
 // Bits of a 16-bit number: the few operations that labels, blocks and lifts are made of, by shifts, masks and counts. Each promises a definition of
 // specs/ and the range that its callers need; no caller looks at how it is found.
 
+#![tactic(auto)]
+
 ghost use Rattle.std.specs.Prelude.{◌≡◌};
 ghost use Rattle.std.specs.Int.Bits.{bit_xor};
 ghost use Rattle.std.specs.Int.Count.{ones};

@@ -1,6 +1,8 @@
 // Stretches of cells: filling one, or all, clearing all, copying one from another buffer, finding the first cell in which two differ, and the first that is
 // too large.
 
+#![tactic(auto)]
+
 ghost use Rattle.std.specs.Prelude.{◌≡◌, ℕ, ◌+◌, ◌≤◌, ◌<◌, leb, length, get_or, replicate};
 ghost use Rattle.tree.specs.Scan.{least};
 ghost use Rattle.tree.specs.Sections.{Same};

@@ -1,6 +1,8 @@
 // The program (document 01, "The program") as a function on slices: what it reads is the input, what it prints is put at the start of a buffer. It reads
 // lines and prints lines; what carries what is answered by the calls of `routes`, of tables that a call of `tables` built.
 
+#![tactic(auto)]
+
 mod ask;
 mod print;
 mod sheet;

@@ -2,6 +2,8 @@
 // ones are made here. Each is checked, or its tables are built or compared with it, or it is asked for carriers, subtrees or totals, and a line
 // says the verdict and what became of work, which held sevens before.
 
+#![tactic(auto)]
+
 mod ask;
 mod cases;
 mod damage;

@@ -2,6 +2,8 @@
 // columns before it, for building and comparing alike: a call of `tables` copies it out, or looks for the first cell that differs from it. The sheet is one
 // rooted tree, and work has its exact length.
 
+#![tactic(auto)]
+
 mod along;
 mod steps;
 

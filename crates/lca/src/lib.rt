@@ -4,6 +4,8 @@
 // same contract.
 // `lca_version` is no such call: it says which version of this interface the archive has.
 
+#![tactic(auto)]
+
 ghost use Rattle.std.specs.Prelude.{◌≡◌};
 ghost use Rattle.tree.specs.Verdict.{number_of, place_of, verdict_of, traced_of, start_of};
 ghost use Rattle.tree.specs.Tables.{lent_by};

@@ -1,6 +1,8 @@
 // A bottom-up order of a sheet: each part but the root, after all that are bolted into it, with its entry beside it. Found by taking leaves off until none is
 // left; on a sheet that goes round they end too soon, so that this is a loop test as well. The sheet has passed tests 4 to 6.
 
+#![tactic(auto)]
+
 mod take;
 
 ghost use Rattle.std.specs.Prelude.{◌≡◌, true, false, ℕ, ◌-◌, ◌*◌, ◌≤◌, ◌<◌, length, get_or};

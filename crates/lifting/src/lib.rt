@@ -1,6 +1,8 @@
 // The carrier of one pair of an accepted sheet's parts by the lift rule, and the trail of its lifts. The tables are the sheet's own: a call of `routes`
 // has compared them.
 
+#![tactic(auto)]
+
 mod meet;
 mod raise;
 

@@ -2,6 +2,8 @@
 // begins. A program that reads such lines uses these and adds what it does with them. `next_line` asks for a position within the input and for room for a list's
 // numbers; this crate is the inside of the programs, and no call of a user's.
 
+#![tactic(auto)]
+
 mod form;
 mod machine;
 mod reader;

@@ -3,6 +3,8 @@
 // document 02's branches (2026-03), by climbing part by part and by looking cell by cell. The first disagreement is printed, and nothing is held after
 // it; where there is none, a summary says how much was held, and tools/naive.py works out how much that has to be.
 
+#![tactic(auto)]
+
 mod after;
 mod answers;
 mod ask;

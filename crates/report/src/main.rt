@@ -1,6 +1,8 @@
 // The program: standard input to standard output. What a program reads and writes no contract can say; what is printed for what was read is `console`'s
 // contract, and `text` here shows that the program's own buffer is never short. Where the report could not be written whole, standard error says so.
 
+#![tactic(auto)]
+
 ghost use Rattle.std.specs.Prelude.{◌+◌, ◌≤◌, ◌≡◌, length, take};
 ghost use Rattle.io.specs.Counts.{IsPrefixLen};
 ghost use Rattle.console.specs.Run.{most_bytes, output};

@@ -2,6 +2,8 @@
 // to 11 of document 01's table) and compares the lent tables with the sheet once for all its questions. `work` has four cells for each part; it is all zero
 // afterwards, or as it was after refusals 1 to 3. A refused call alters no other buffer.
 
+#![tactic(auto)]
+
 mod answer;
 mod ask;
 

@@ -2,6 +2,8 @@
 // and comparing alike: a call of `tables` copies it out, or looks for the first cell that differs from it. The rows after the first are filled
 // straight into their table, and compared without being made. The sheet is one rooted tree, and work has its exact length.
 
+#![tactic(auto)]
+
 pub mod lifts;
 pub mod sparse;
 

@@ -2,6 +2,8 @@
 // of a list in preorder. The tables are the sheet's own: a call of `routes` has compared them, once for all its pairs. After that each rule takes constant
 // time a pair, and so does a branch.
 
+#![tactic(auto)]
+
 mod blocks;
 mod steps;
 

@@ -2,6 +2,8 @@
 // each; those that loops make are made here. A run prints its name and what the program prints; after the text the buffer must be as it was.
 // `tools/sessions.py` works out what this must print, by document 01's words.
 
+#![tactic(auto)]
+
 mod bytes;
 mod cases;
 mod large;

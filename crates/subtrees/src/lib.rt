@@ -2,6 +2,8 @@
 // its own input: tests 1 to 8, and 10 with the part at position 0. `work` has four cells for each part; it is all zero afterwards, or as it was after
 // refusals 1 to 3. No other buffer is altered.
 
+#![tactic(auto)]
+
 ghost use Rattle.std.specs.Prelude.{◌≡◌, ◌+◌, ◌≤◌, length};
 ghost use Rattle.tree.specs.Labels.{label_table};
 ghost use Rattle.tree.specs.Nodes.{Small};

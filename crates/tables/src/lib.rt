@@ -1,6 +1,8 @@
 // Checking a sheet, building its four tables, and comparing lent tables with it: tests 1 to 8 of document 01's table. Each call takes a time
 // at most proportional to n log n for n parts, which is the size of the tables; a check usually takes a few passes over the sheet.
 
+#![tactic(auto)]
+
 mod fill;
 mod fits;
 mod stale;

@@ -1,6 +1,8 @@
 // Text in buffers of bytes: what stands at a place of a line, where a line ends, and words and numbers written from a place on. The functions
 // ask for a place within the buffer and for room; they are the inside of `lines` and `console`.
 
+#![tactic(auto)]
+
 mod read;
 mod write;
 

@@ -23,12 +23,12 @@ member-at (x ∷ xs) zero h = Memᴰ.head refl
 member-at (x ∷ xs) (suc i) h = Memᴰ.tail (member-at xs i (le_of_suc-le-suc h))
 
 -- a member stands at some position
-index_of : (l : List ℕ) (v : ℕ) → Memᴰ v l → (i : ℕ) × (i < length l) × (get_or l i 0 ≡ v)
-index_of l v (Memᴰ.head {xs = xs} e) = (0, zero-lt-suc (length xs), sym e)
-index_of l v (Memᴰ.tail {xs = xs} m) = let r = index_of xs v m in (suc r.0, suc-le-suc r.1, r.2)
+index_of : (v : ℕ) (l : List ℕ) → Memᴰ v l → (i : ℕ) × (i < length l) × (get_or l i 0 ≡ v)
+index_of v l (Memᴰ.head {xs = xs} e) = (0, zero-lt-suc (length xs), sym e)
+index_of v l (Memᴰ.tail {xs = xs} m) = let r = index_of v xs m in (suc r.0, suc-le-suc r.1, r.2)
 
 pub member-position : (l : List ℕ) (v : ℕ) → Memᴰ v l → position l v < length l
-member-position l v m = let r = index_of l v m in lt_of_le_of_lt (position-at-most l v r.0 r.2) r.1
+member-position l v m = let r = index_of v l m in lt_of_le_of_lt (position-at-most l v r.0 r.2) r.1
 
 -- ---- lists in order
 

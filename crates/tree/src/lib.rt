@@ -1,5 +1,7 @@
 // What the calls of the crates above answer. The definitions that their contracts cite are in specs/, the laws about them in proofs/.
 
+#![tactic(auto)]
+
 ghost use Rattle.std.specs.Prelude.{◌≡◌};
 ghost use Rattle.tree.specs.Verdict.{number_of, place_of};
 

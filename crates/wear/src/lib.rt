@@ -2,6 +2,8 @@
 // input, tests 1 to 7, and is lent no tables. `work` has four cells for each part; it is all zero afterwards, or as it was after refusals 1 to 3. An accepted call
 // takes a time in proportion to the number of parts.
 
+#![tactic(auto)]
+
 mod sums;
 
 ghost use Rattle.std.specs.Prelude.{◌≡◌};
