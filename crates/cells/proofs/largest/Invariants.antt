@@ -1,0 +1,16 @@
+-- `cells::largest` meets its contract: no cell passed is larger.
+-- Assumes nothing.
+use native.Mathlib.Nat.{not-suc-le-zero}
+use native.Mathlib.Omega.{arith}
+use borrow.Author.Count.{below_more}
+use borrow.Author.Rules.{rules}
+use Prim.Native.Nat.{ℕ, ◌-◌, ◌≤◌, ◌<◌}
+use mathlib.Core.Logic.{⊎_elim}
+use lib.ListN.{length, get_or}
+use Rattle.cells.proofs.largest.Given as goal
+
+abbrev pub invariant-loop-i : goal.invariant-loop-i
+invariant-loop-i l = (l.i ≤ length l.cells) × ((j : ℕ) → j < l.i → get_or l.cells j 0 ≤ l.most)
+
+abbrev pub decreases-loop-i : goal.decreases-loop-i
+decreases-loop-i l = length l.cells - l.i

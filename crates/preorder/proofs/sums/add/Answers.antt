@@ -1,0 +1,80 @@
+-- `preorder::sums::add` meets its contract: the sums are those over the nodes before v, and where no bit is gathered, PREORDER follows them so far.
+-- Assumes nothing.
+use native.Mathlib.Omega.{arith}
+use borrow.Author.Rules.{rules}
+use Prim.Native.Nat.{ℕ, ◌+◌, ◌-◌, ◌*◌, ◌≤◌, ◌<◌}
+use native.Mathlib.Numerals.{add-one}
+use mathlib.Core.Path.{◌≡◌, ap, ◌∙◌}
+use mathlib.Core.List.{List}
+use lib.ListN.{length, get_or, length-set}
+use Rattle.tree.specs.Tree.{parent}
+use Rattle.cells.proofs.Stretches.{no_bits}
+use Rattle.preorder.specs.Sums.{Sums, Numbered}
+use Rattle.preorder.proofs.Parents.{Cells, cells_at}
+use Rattle.preorder.proofs.Summing.{sums-more, numbered-none, numbered_more}
+use Rattle.preorder.proofs.sums.add.Goals as goal
+
+-- its sum and the node's SIZE, as they were read, have 16 bits
+record Read (label work : List ℕ) (n v p : ℕ) : Type 0 where
+  sum : get_or work p 0 < 65536
+  size : get_or label (n + v) 0 < 65536
+
+pub loop-v-init : goal.loop-v-init
+loop-v-init c = (search rules, c.requires.ordered, search rules, c.requires.sums, λ e. numbered-none _ _ _)
+
+pub returns-then-n-grown : goal.returns-then-n-grown
+returns-then-n-grown c = λ z. absurd (omega arith)
+
+-- `room`: work keeps its length
+pub loop-v-preserved : goal.loop-v-preserved
+unfolding parent
+loop-v-preserved c =
+    let cells : (let s = c.args in Cells s.parents.now s.label.now c.loop-v.v) = (let p = c.requires in
+    let most = p.most in
+    cells_at p.ready.small p.ready.tree.inside p.cells (omega arith)) in
+    let room : (length c.loop-v.work ≡ 4 * length c.args.parents.now) = (c.loop-v.invariant.2 ∙ c.requires.ready.room) in
+    let l = c.loop-v in
+    let f = cells in
+    let child = c.requires.child l.v l.invariant.0 c.loop-v-test.true in (
+      omega arith,
+      omega arith,
+      simp length-set l.invariant.2,
+      rw add-one (sums-more (omega (arith, room)) f.above child l.invariant.3),
+      λ z.
+          let none = no_bits _ _ _ z in
+          rw add-one
+          (numbered_more (l.invariant.4 none.0)
+          (none.1 ∙ ap (λ k. get_or c.args.label.now (get_or c.args.parents.now l.v 0) 0 + k) (l.invariant.3.sum _ f.above))),
+    )
+
+pub returns : goal.returns
+returns c =
+    λ z.
+    let l = c.loop-v in
+    let e : l.v ≡ c.args.end = omega arith in
+    (rw e at l.invariant.3, rw e at (l.invariant.4 z))
+
+-- `room`: work keeps its length
+pub bounds-work-p : goal.bounds-work-p
+bounds-work-p c =
+    let cells : (let s = c.args in Cells s.parents.now s.label.now c.loop-v.v) = (let p = c.requires in
+    let most = p.most in
+    cells_at p.ready.small p.ready.tree.inside p.cells (omega arith)) in
+    let room : (length c.loop-v.work ≡ 4 * length c.args.parents.now) = (c.loop-v.invariant.2 ∙ c.requires.ready.room) in
+    let d = cells in omega (arith, room)
+
+pub bounds-label-p : goal.bounds-label-p
+bounds-label-p c =
+    let cells : (let s = c.args in Cells s.parents.now s.label.now c.loop-v.v) = (let p = c.requires in
+    let most = p.most in
+    cells_at p.ready.small p.ready.tree.inside p.cells (omega arith)) in
+    let d = cells in omega arith
+
+-- `room`: work keeps its length
+pub bounds-work-p-in-loop-v : goal.bounds-work-p-in-loop-v
+bounds-work-p-in-loop-v c =
+    let cells : (let s = c.args in Cells s.parents.now s.label.now c.loop-v.v) = (let p = c.requires in
+    let most = p.most in
+    cells_at p.ready.small p.ready.tree.inside p.cells (omega arith)) in
+    let room : (length c.loop-v.work ≡ 4 * length c.args.parents.now) = (c.loop-v.invariant.2 ∙ c.requires.ready.room) in
+    let d = cells in omega (arith, room)
