@@ -1,0 +1,50 @@
+-- `leaves::take::take_eights` meets its contract: the place is a multiple of eight.
+-- Assumes nothing.
+use Prim.Native.Nat.{◌-◌, ◌*◌, ◌/◌, ◌%◌}
+use native.Mathlib.Omega.{arith}
+use mathlib.Core.Path.{◌≡◌, refl, ◌∙◌}
+use lib.ListN.{length}
+use Rattle.leaves.specs.Leaves.{Taking, Waiting}
+use Rattle.leaves.proofs.Naming.{wooded-same}
+use Rattle.leaves.proofs.Taken.{found_below}
+use Rattle.leaves.proofs.Waits.{waiting-part}
+use Rattle.leaves.proofs.take.take_eights.Goals as goal
+
+pub loop-at-init : goal.loop-at-init
+loop-at-init c = (refl, refl, c.requires.1)
+
+-- `eight-wait`: eight parts wait
+pub eight-found-requires : goal.eight-found-requires
+eight-found-requires c =
+    let eight-wait : (let l = c.loop-at in Waiting c.args.parents.now l.work l.at 8 l.found) = (let l = c.loop-at.invariant in
+    record { wooded = wooded-same c.requires.0 l.1; taking = l.2; wait = c.loop-at-test.true }) in
+    eight-wait
+
+pub loop-at-preserved : goal.loop-at-preserved
+loop-at-preserved c =
+    let l = c.loop-at.invariant in
+    let took = c.eight-found.ensures in
+    (omega (arith, l.0), took.cells ∙ l.1, took.taking)
+
+pub returns : goal.returns
+returns c =
+    let l = c.loop-at in
+    let e : l.at ≡ l.found / 8 * 8 = let within = l.invariant.2.within in let last = c.loop-at-test.false in omega (arith, l.invariant.0) in
+    rw e at l.invariant.2
+
+pub overflow_add-at : goal.overflow_add-at
+overflow_add-at c =
+    let l = c.loop-at.invariant in
+    let g = wooded-same c.requires.0 l.1 in
+    let few = found_below l.2 g in
+    let within = l.2.within in
+    omega arith
+
+-- `eight-wait`: eight parts wait
+pub loop-at-smaller : goal.loop-at-smaller
+loop-at-smaller c =
+    let eight-wait : (let l = c.loop-at in Waiting c.args.parents.now l.work l.at 8 l.found) = (let l = c.loop-at.invariant in
+    record { wooded = wooded-same c.requires.0 l.1; taking = l.2; wait = c.loop-at-test.true }) in
+    let f = waiting-part eight-wait c.loop-at.at (omega arith) in
+    let wait = c.loop-at-test.true in
+    omega arith

@@ -1,0 +1,24 @@
+-- `lifting::raise::levelled` meets its contract: the powers below 2^k are left to try.
+-- Assumes nothing.
+use Prim.Native.Nat.{suc, ◌-◌, ◌*◌, ◌%◌, ◌^◌, ◌<◌}
+use native.Mathlib.Numerals.{add-one}
+use native.Mathlib.Omega.{arith}
+use mathlib.Core.Path.{◌≡◌, ap, ◌∙◌}
+use borrow.Author.Rules.{rules}
+use borrow.Author.Tests.{le-leb, lt-leb}
+use lib.Dec.{leb}
+use lib.ListN.{length}
+use Rattle.bits.specs.Bits.{log2}
+use Rattle.bits.proofs.Ones.{one_shifted}
+use Rattle.tree.specs.Tables.{own}
+use Rattle.tree.specs.Trail.{gap, raise_deeper, levelled}
+use Rattle.lifting.specs.Stored.{row}
+use Rattle.lifting.proofs.Raising.{Trying, trying_start, trying-pass, trying-skip, trying-end}
+use Rattle.lifting.proofs.raise.levelled.Given as goal
+
+abbrev pub invariant-loop-k : goal.invariant-loop-k
+invariant-loop-k l =
+    Trying (λ j p. leb (2 ^ j) (gap (own l.parents) p)) (raise_deeper (own l.parents)) l.parents (suc (log2 (length l.parents))) (row l.x0 l.y0) 0 l.initial.rows l.rows l.k (row l.x l.y) l.lifts
+
+abbrev pub decreases-loop-k : goal.decreases-loop-k
+decreases-loop-k l = l.k

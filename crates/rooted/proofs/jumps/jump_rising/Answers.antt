@@ -1,0 +1,20 @@
+-- `rooted::jumps::jump_rising` meets its contract: the pass has yet to come to the parts from v on.
+-- Assumes nothing.
+use Prim.Native.Nat.{◌-◌}
+use borrow.Author.Rules.{rules}
+use lib.ListN.{length}
+use Rattle.rooted.proofs.Jumping.{Jumping, jumping-start, first-inside, jumping-rise, jumping-end}
+use Rattle.rooted.proofs.jumps.jump_rising.Goals as goal
+
+pub loop-v-init : goal.loop-v-init
+loop-v-init c = jumping-start c.requires
+
+pub hop-up-requires : goal.hop-up-requires
+hop-up-requires c = first-inside c.loop-v.invariant c.loop-v-test.true
+
+pub loop-v-preserved : goal.loop-v-preserved
+loop-v-preserved c =
+    jumping-rise c.loop-v.invariant c.loop-v-test.true c.hop-up.ensures
+
+pub returns : goal.returns
+returns c = jumping-end c.loop-v.invariant c.loop-v-test.false

@@ -1,0 +1,13 @@
+-- `rooted::jumps::jump_rising` meets its contract: the pass has yet to come to the parts from v on.
+-- Assumes nothing.
+use Prim.Native.Nat.{◌-◌}
+use borrow.Author.Rules.{rules}
+use lib.ListN.{length}
+use Rattle.rooted.proofs.Jumping.{Jumping, jumping-start, first-inside, jumping-rise, jumping-end}
+use Rattle.rooted.proofs.jumps.jump_rising.Given as goal
+
+abbrev pub invariant-loop-v : goal.invariant-loop-v
+invariant-loop-v l = Jumping l.parents l.initial.work l.work l.root l.v (length l.parents) l.bits
+
+abbrev pub decreases-loop-v : goal.decreases-loop-v
+decreases-loop-v l = length l.parents - l.v

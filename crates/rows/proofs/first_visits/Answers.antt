@@ -1,0 +1,43 @@
+-- `rows::first_visits` meets its contract: the first v cells of work are the first positions of the nodes below v.
+-- Assumes nothing.
+use native.Mathlib.Omega.{arith}
+use borrow.Author.Rules.{rules}
+use Prim.Native.Nat.{◌-◌, ◌≤◌}
+use mathlib.Core.Path.{◌≡◌, sym, ◌∙◌}
+use lib.ListN.{length, length-set}
+use Rattle.tree.specs.Buffers.{visits}
+use Rattle.tree.specs.Tour.{tour_table}
+use Rattle.tree.specs.Sections.{Same}
+use Rattle.tree.proofs.Cells.{first_cell}
+use Rattle.tree.proofs.Differences.{same_none, same_store}
+use Rattle.tree.proofs.Tours.{tour-length}
+use Rattle.rows.proofs.Visited.{Node, node-read}
+use Rattle.rows.proofs.first_visits.Goals as goal
+
+pub loop-v-init : goal.loop-v-init
+loop-v-init c = (search rules, search rules, same_none _ _ _ _)
+
+pub first_visit-requires : goal.first_visit-requires
+first_visit-requires c =
+    let facts : (let s = c.args in Node s.parents.now s.label.now c.loop-v.v) = (node-read c.requires c.loop-v.v c.loop-v-test.true) in
+    let d = facts in (d.number, d.rest)
+
+pub loop-v-preserved : goal.loop-v-preserved
+loop-v-preserved c =
+    let facts : (let s = c.args in Node s.parents.now s.label.now c.loop-v.v) = (node-read c.requires c.loop-v.v c.loop-v-test.true) in
+    let t = c.requires.ready.tree in
+    let l = c.loop-v in
+    let h = c.loop-v-test.true in
+    let d = facts in
+    (omega arith, simp length-set l.invariant.1, same_store (omega arith) l.invariant.2 (c.first_visit.ensures ∙ d.is ∙ sym (first_cell _ l.v (tour-length t) h)))
+
+pub returns : goal.returns
+returns c =
+    let l = c.loop-v in
+    let e : l.v ≡ length c.args.parents.now = omega arith in
+    rw e at l.invariant.2
+
+pub overflow_cast-work : goal.overflow_cast-work
+overflow_cast-work c =
+    let facts : (let s = c.args in Node s.parents.now s.label.now c.loop-v.v) = (node-read c.requires c.loop-v.v c.loop-v-test.true) in
+    let d = facts in omega arith

@@ -1,0 +1,21 @@
+-- `rows::first_visits` meets its contract: the first v cells of work are the first positions of the nodes below v.
+-- Assumes nothing.
+use native.Mathlib.Omega.{arith}
+use borrow.Author.Rules.{rules}
+use Prim.Native.Nat.{◌-◌, ◌≤◌}
+use mathlib.Core.Path.{◌≡◌, sym, ◌∙◌}
+use lib.ListN.{length, length-set}
+use Rattle.tree.specs.Buffers.{visits}
+use Rattle.tree.specs.Tour.{tour_table}
+use Rattle.tree.specs.Sections.{Same}
+use Rattle.tree.proofs.Cells.{first_cell}
+use Rattle.tree.proofs.Differences.{same_none, same_store}
+use Rattle.tree.proofs.Tours.{tour-length}
+use Rattle.rows.proofs.Visited.{Node, node-read}
+use Rattle.rows.proofs.first_visits.Given as goal
+
+abbrev pub invariant-loop-v : goal.invariant-loop-v
+invariant-loop-v l = (l.v ≤ length l.parents) × (length l.work ≡ length l.initial.work) × Same l.work 0 (tour_table l.parents) (visits (length l.parents)) l.v
+
+abbrev pub decreases-loop-v : goal.decreases-loop-v
+decreases-loop-v l = length l.parents - l.v

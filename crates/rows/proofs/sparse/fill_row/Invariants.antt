@@ -1,0 +1,22 @@
+-- `rows::sparse::fill_row` meets its contract: the table is the sheet's own up to the next row's first i cells; then come the blocks that pass the end.
+-- Assumes nothing.
+use native.Mathlib.Omega.{arith}
+use borrow.Author.Rules.{rules}
+use Prim.Native.Nat.{◌+◌, ◌-◌, ◌*◌, ◌≤◌}
+use native.Mathlib.Nat.{zero-add}
+use mathlib.Core.Path.{◌≡◌, ◌∙◌}
+use lib.ListN.{length, get_or, length-set}
+use Rattle.tree.specs.Buffers.{visits}
+use Rattle.tree.specs.Tour.{tour_table}
+use Rattle.tree.specs.Sections.{Same}
+use Rattle.tree.proofs.Differences.{same_store}
+use Rattle.rows.proofs.Halves.{next-room, two_blocks, row-filled}
+use Rattle.rows.proofs.sparse.fill_row.Given as goal
+
+abbrev pub invariant-loop-i : goal.invariant-loop-i
+invariant-loop-i l =
+    (l.i ≤ 2 * length l.parents - 2 * l.half) × (length l.table ≡ length l.initial.table)
+    × Same l.table 0 (tour_table l.parents) 0 (l.at + visits (length l.parents) + l.i)
+
+abbrev pub decreases-loop-i : goal.decreases-loop-i
+decreases-loop-i l = 2 * length l.parents - 2 * l.half - l.i

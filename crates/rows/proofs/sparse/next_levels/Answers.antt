@@ -1,0 +1,27 @@
+-- `rows::sparse::next_levels` meets its contract: the levels of the next row's first i cells stand in the other half of work, those of the row in theirs.
+-- Assumes nothing.
+use native.Mathlib.Omega.{arith}
+use borrow.Author.Rules.{rules}
+use Prim.Native.Nat.{◌-◌, ◌*◌, ◌≤◌}
+use mathlib.Core.Path.{◌≡◌, sym, ◌∙◌}
+use lib.ListN.{length, length-set}
+use Rattle.rows.proofs.Heights.{Inside, inside, TwoLevels, two-levels, Lowered, lowered_none, lowered-more, lowered-all}
+use Rattle.rows.proofs.sparse.next_levels.Goals as goal
+
+pub loop-i-init : goal.loop-i-init
+loop-i-init c = (search rules, search rules, lowered_none c.requires.levels)
+
+pub loop-i-preserved : goal.loop-i-preserved
+loop-i-preserved c =
+    let facts : (let s = c.args in TwoLevels s.parents.now c.loop-i.work s.half s.from c.loop-i.i) = (let two = c.requires.two in
+    two-levels c.requires c.loop-i.invariant.2.old c.loop-i.i (omega arith)) in
+    let l = c.loop-i in
+    let d = facts in
+    let two = c.requires.two in (
+      omega arith,
+      simp length-set l.invariant.1,
+      lowered-more c.requires (l.invariant.1 ∙ c.requires.ready.room) (omega arith) (λ j e. c.lesser.ensures ∙ d.both j e) l.invariant.2,
+    )
+
+pub returns : goal.returns
+returns c = lowered-all (omega (arith, c.requires.two)) c.loop-i.invariant.2

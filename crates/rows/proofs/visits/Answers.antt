@@ -1,0 +1,50 @@
+-- `rows::visits` meets its contract: the tour's cells of the nodes below v stand, and every cell is a node's.
+-- Assumes nothing.
+use native.Mathlib.Omega.{arith}
+use borrow.Author.Rules.{rules}
+use Prim.Native.Nat.{◌-◌, ◌≤◌}
+use mathlib.Core.Path.{◌≡◌, refl, ◌∙◌}
+use lib.ListN.{length, length-set}
+use Rattle.tree.specs.Tree.{parent}
+use Rattle.rows.proofs.Visited.{Node, Visited, node-read, visited-none, visited-more, visited-all}
+use Rattle.rows.proofs.visits.Goals as goal
+
+pub loop-v-init : goal.loop-v-init
+loop-v-init c = (search rules, search rules, visited-none _ _)
+
+pub first_visit-first-requires : goal.first_visit-first-requires
+first_visit-first-requires c =
+    let facts : (let s = c.args in Node s.parents.now s.label.now c.loop-v.v) = (node-read c.requires c.loop-v.v c.loop-v-test.true) in
+    let d = facts in (d.number, d.rest)
+
+pub loop-v-preserved : goal.loop-v-preserved
+unfolding parent
+loop-v-preserved c =
+    let facts : (let s = c.args in Node s.parents.now s.label.now c.loop-v.v) = (node-read c.requires c.loop-v.v c.loop-v-test.true) in
+    let t = c.requires.ready.tree in
+    let l = c.loop-v in
+    let h = c.loop-v-test.true in
+    let d = facts in
+    let p = c.first_visit-first.ensures ∙ d.is in
+    (omega arith, simp length-set l.invariant.1, visited-more t d h (omega arith) p (omega arith) refl l.invariant.2)
+
+pub returns : goal.returns
+returns c =
+    let l = c.loop-v in
+    let e : l.v ≡ length c.args.parents.now = omega arith in
+    visited-all c.requires.ready.tree (rw e at l.invariant.2)
+
+pub bounds-work-first : goal.bounds-work-first
+bounds-work-first c =
+    let facts : (let s = c.args in Node s.parents.now s.label.now c.loop-v.v) = (node-read c.requires c.loop-v.v c.loop-v-test.true) in
+    let d = facts in omega arith
+
+pub overflow_sub-work : goal.overflow_sub-work
+overflow_sub-work c =
+    let facts : (let s = c.args in Node s.parents.now s.label.now c.loop-v.v) = (node-read c.requires c.loop-v.v c.loop-v-test.true) in
+    let d = facts in omega arith
+
+pub bounds-work-first-in-loop-v : goal.bounds-work-first-in-loop-v
+bounds-work-first-in-loop-v c =
+    let facts : (let s = c.args in Node s.parents.now s.label.now c.loop-v.v) = (node-read c.requires c.loop-v.v c.loop-v-test.true) in
+    let d = facts in simp length-set (omega arith)

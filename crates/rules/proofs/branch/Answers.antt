@@ -1,0 +1,47 @@
+-- `rules::branch` meets its contract: the part that is visited before the tour comes back to c is the branch, and there is no other.
+-- Assumes nothing.
+use native.Mathlib.Omega.{arith}
+use Prim.Native.Nat.{◌-◌, ◌<◌}
+use mathlib.Core.Path.{◌∙◌}
+use borrow.Author.Rules.{rules}
+use Rattle.tree.proofs.Climbs.{ancestor-inside}
+use Rattle.tree.proofs.Branches.{branch-itself, branch-is}
+use Rattle.rules.proofs.TourCells.{Visited, visited}
+use Rattle.rules.proofs.TourBranches.{back_inside}
+use Rattle.rules.proofs.branch.Goals as goal
+
+pub returns-then-x-c : goal.returns-then-x-c
+returns-then-x-c c =
+    let p = c.requires in
+    record { is = branch-is p.0.tree p.1 p.2 (branch-itself _ c.if-x-c.true); below = ancestor-inside p.0.tree.inside p.1 p.2 }
+
+pub back-at-requires : goal.back-at-requires
+back-at-requires c =
+    let p = c.requires in
+    (record { small = p.0; node = p.1; carries = p.2; other = c.if-x-c.false }, p.3, p.4)
+
+-- `node-before`: the node that is visited before
+pub returns : goal.returns
+returns c =
+    let node-before : (let a = c.args in Visited a.parents.now a.tour.now (c.back-at.result - 1)) = (let p = c.requires in
+    let t = p.0.tree in
+    visited t p.4 (omega (arith, back_inside t p.1 p.2 c.back-at.ensures))) in
+    let p = c.requires in
+    let d = node-before in
+    record { is = d.is ∙ branch-is p.0.tree p.1 p.2 c.back-at.ensures.branch; below = d.node }
+
+-- `node-before`: the node that is visited before
+pub offset_bounds-tour-at : goal.offset_bounds-tour-at
+offset_bounds-tour-at c =
+    let node-before : (let a = c.args in Visited a.parents.now a.tour.now (c.back-at.result - 1)) = (let p = c.requires in
+    let t = p.0.tree in
+    visited t p.4 (omega (arith, back_inside t p.1 p.2 c.back-at.ensures))) in
+    let d = node-before in omega (arith, d.room)
+
+-- `node-before`: the node that is visited before
+pub bounds-tour-at : goal.bounds-tour-at
+bounds-tour-at c =
+    let node-before : (let a = c.args in Visited a.parents.now a.tour.now (c.back-at.result - 1)) = (let p = c.requires in
+    let t = p.0.tree in
+    visited t p.4 (omega (arith, back_inside t p.1 p.2 c.back-at.ensures))) in
+    node-before.room

@@ -1,0 +1,40 @@
+-- `rules::steps::step3` meets its contract: the cell of HEAD that it reads is that of the label computed, or of v's own.
+-- Assumes nothing.
+use native.Mathlib.Omega.{arith}
+use mathlib.Core.Path.{◌≡◌}
+use borrow.Author.Rules.{rules}
+use Rattle.rules.proofs.Cells.{label_cells_lem}
+use Rattle.rules.proofs.Toward.{HeadCell, path_read, path-head, step3-here, step3-head}
+use Rattle.rules.proofs.steps.step3.Goals as goal
+
+pub returns-then-iv-iz : goal.returns-then-iv-iz
+returns-then-iv-iz c = step3-here c.requires.0 c.requires.1 c.if-iv-iz.true
+
+-- `path`: the label of which HEAD is read
+pub returns-else-iv-iz : goal.returns-else-iv-iz
+returns-else-iv-iz c =
+    let path : (let a = c.args in
+    c.path_read-path.result ≡ path_read a.parents.now a.label.now a.v a.j a.iz) = (rw (c.path_read-path.ensures, c.log2-k.ensures.is, c.bits_below.ensures)) in
+    rw path (step3-head c.requires.0 c.requires.1 c.if-iv-iz.false)
+
+pub bounds-label-n : goal.bounds-label-n
+bounds-label-n c = omega (arith, label_cells_lem _ c.requires.1)
+
+pub bounds-label-n-2 : goal.bounds-label-n-2
+bounds-label-n-2 c = omega (arith, label_cells_lem _ c.requires.1)
+
+-- `path`: the label of which HEAD is read
+pub bounds-label-n-3 : goal.bounds-label-n-3
+bounds-label-n-3 c =
+    let path : (let a = c.args in
+    c.path_read-path.result ≡ path_read a.parents.now a.label.now a.v a.j a.iz) = (rw (c.path_read-path.ensures, c.log2-k.ensures.is, c.bits_below.ensures)) in
+    let head : (let a = c.args in HeadCell a.parents.now a.label.now c.path_read-path.result) = (rw path (path-head c.requires.0 c.requires.1)) in
+    let d = head in omega (arith, label_cells_lem _ c.requires.1)
+
+-- `path`: the label of which HEAD is read
+pub bounds-parents-head : goal.bounds-parents-head
+bounds-parents-head c =
+    let path : (let a = c.args in
+    c.path_read-path.result ≡ path_read a.parents.now a.label.now a.v a.j a.iz) = (rw (c.path_read-path.ensures, c.log2-k.ensures.is, c.bits_below.ensures)) in
+    let head : (let a = c.args in HeadCell a.parents.now a.label.now c.path_read-path.result) = (rw path (path-head c.requires.0 c.requires.1)) in
+    let d = head in omega arith
