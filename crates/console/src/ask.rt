@@ -37,7 +37,7 @@ pub(crate) fn questions(
     put: usize,
 ) -> usize
     requires at_in_bounds { (at ≤ length input.now) × (first ≤ part_line most) }
-    requires stands { Stands (lent_by parents label tour lift order) work.old }
+    requires stands { Stands (lent_by parents.now label.now tour.now lift.now order.now) work.old }
     requires room { Room out.old put (Run·questions parents.now first (lines (drop at input.now))) }
     ensures { Puts out.old put (Run·questions parents.now first (lines (drop at input.now))) out.new result }
 {
@@ -88,7 +88,7 @@ fn answer(
     put: usize,
 ) -> usize
     requires q_in_bounds { listed_by q ≤ length beside.now }
-    requires stands { Stands (lent_by parents label tour lift order) work.old }
+    requires stands { Stands (lent_by parents.now label.now tour.now lift.now order.now) work.old }
     requires room { Room out.old put (Run·answer parents.now (query_of beside.now q)) }
     ensures { Puts out.old put (Run·answer parents.now (query_of beside.now q)) out.new result }
 {
@@ -121,7 +121,7 @@ fn pair(
     out: &mut [u8],
     put: usize,
 ) -> usize
-    requires stands { Stands (lent_by parents label tour lift order) work.old }
+    requires stands { Stands (lent_by parents.now label.now tour.now lift.now order.now) work.old }
     requires room { Room out.old put (Run·answer parents.now (Forms·pair x y)) }
     ensures { Puts out.old put (Run·answer parents.now (Forms·pair x y)) out.new result }
 {
@@ -162,7 +162,7 @@ fn lifted(
     put: usize,
 ) -> usize
     requires found { Found parents.now x y carrier left right }
-    requires stands { Stands (lent_by parents label tour lift order) work.old }
+    requires stands { Stands (lent_by parents.now label.now tour.now lift.now order.now) work.old }
     requires room { Room out.old put (Run·answer parents.now (Forms·pair x y)) }
     ensures { Puts out.old put (Run·answer parents.now (Forms·pair x y)) out.new result }
 {
@@ -217,7 +217,7 @@ fn many(
     out: &mut [u8],
     put: usize,
 ) -> usize
-    requires stands { Stands (lent_by parents label tour lift order) work.old }
+    requires stands { Stands (lent_by parents.now label.now tour.now lift.now order.now) work.old }
     requires room { Room out.old put (Run·answer parents.now (Forms·many question.now)) }
     ensures { Puts out.old put (Run·answer parents.now (Forms·many question.now)) out.new result }
 {

@@ -100,7 +100,7 @@ fn read_sheet(
     put: usize,
 ) -> usize
     requires at_in_bounds { at ≤ length input.now }
-    requires sized { Sized (lent_by parents label tour lift order) work.old }
+    requires sized { Sized (lent_by parents.old label.old tour.old lift.old order.old) work.old }
     requires room { Room out.old put (sheet_run (parts (length parents.old) 0 (lines (drop at input.now)))) }
     ensures { Puts out.old put (sheet_run (parts (length parents.old) 0 (lines (drop at input.now)))) out.new result }
 {
@@ -126,7 +126,7 @@ fn test_sheet(
     put: usize,
 ) -> usize
     requires at_in_bounds { at ≤ length input.now }
-    requires sized { Sized (lent_by parents label tour lift order) work.old }
+    requires sized { Sized (lent_by parents.now label.old tour.old lift.old order.old) work.old }
     requires room { Room out.old put (sheet_run (Run·sheet parents.now (lines (drop at input.now)))) }
     ensures { Puts out.old put (sheet_run (Run·sheet parents.now (lines (drop at input.now)))) out.new result }
 {

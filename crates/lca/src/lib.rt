@@ -53,7 +53,7 @@ pub extern "C" fn lca_build(
     value: &mut u64,
 ) -> u32
     ensures { Returned outcome_of
-        (λ r. BuildGives (lent_by parents.entry label.entry tour.entry lift.entry order.entry)
+        (λ r. BuildGives (lent_by parents.now label.old tour.old lift.old order.old)
         work.old r label.new tour.new lift.new order.new work.new)
         result value.new }
 {
@@ -73,7 +73,7 @@ pub extern "C" fn lca_compare(
     value: &mut u64,
 ) -> u32
     ensures { Returned outcome_of
-        (λ r. LentGives (lent_by parents.entry label.entry tour.entry lift.entry order.entry)
+        (λ r. LentGives (lent_by parents.now label.now tour.now lift.now order.now)
         0 work.old r work.new)
         result value.new }
 {
@@ -95,7 +95,7 @@ pub extern "C" fn lca_pairs_by_labels(
     value: &mut u64,
 ) -> u32
     ensures { Returned outcome_of
-        (λ r. PairsGive by_labels (asked_by parents.entry label.entry tour.entry lift.entry order.entry work.entry question.entry answer.entry)
+        (λ r. PairsGive by_labels (asked_by parents.now label.now tour.now lift.now order.now work.old question.now answer.old)
         r work.new answer.new) result value.new }
 {
     let r = routes::pairs_by_labels(parents, label, tour, lift, order, work, question, answer);
@@ -116,7 +116,7 @@ pub extern "C" fn lca_pairs_by_tour(
     value: &mut u64,
 ) -> u32
     ensures { Returned outcome_of
-        (λ r. PairsGive by_tour (asked_by parents.entry label.entry tour.entry lift.entry order.entry work.entry question.entry answer.entry)
+        (λ r. PairsGive by_tour (asked_by parents.now label.now tour.now lift.now order.now work.old question.now answer.old)
         r work.new answer.new) result value.new }
 {
     let r = routes::pairs_by_tour(parents, label, tour, lift, order, work, question, answer);
@@ -137,7 +137,7 @@ pub extern "C" fn lca_pairs_by_lifts(
     value: &mut u64,
 ) -> u32
     ensures { Returned outcome_of
-        (λ r. PairsGive by_lifts (asked_by parents.entry label.entry tour.entry lift.entry order.entry work.entry question.entry answer.entry)
+        (λ r. PairsGive by_lifts (asked_by parents.now label.now tour.now lift.now order.now work.old question.now answer.old)
         r work.new answer.new) result value.new }
 {
     let r = routes::pairs_by_lifts(parents, label, tour, lift, order, work, question, answer);
@@ -158,7 +158,7 @@ pub extern "C" fn lca_list(
     value: &mut u64,
 ) -> u32
     ensures { Returned outcome_of
-        (λ r. ListGives (asked_by parents.entry label.entry tour.entry lift.entry order.entry work.entry question.entry answer.entry)
+        (λ r. ListGives (asked_by parents.now label.now tour.now lift.now order.now work.old question.now answer.old)
         r work.new answer.new) result value.new }
 {
     let r = routes::list(parents, label, tour, lift, order, work, question, answer);
@@ -180,7 +180,7 @@ pub extern "C" fn lca_trail(
     value: &mut u64,
 ) -> u32
     ensures { Returned traced_of
-        (λ r. TrailGives (asked_by parents.entry label.entry tour.entry lift.entry order.entry work.entry question.entry answer.entry)
+        (λ r. TrailGives (asked_by parents.now label.now tour.now lift.now order.now work.old question.now answer.old)
         trail.old r work.new answer.new trail.new) result value.new }
 {
     let r = routes::trail(
@@ -203,7 +203,7 @@ pub extern "C" fn lca_subtree(
     value: &mut u64,
 ) -> u32
     ensures { Returned located_count
-        (λ r. LocateGives (lent_by parents.entry label.entry tour.entry lift.entry order.entry)
+        (λ r. LocateGives (lent_by parents.now label.now tour.now lift.now order.now)
         part work.old r work.new × (start.new ≡ start_of r)) result value.new }
 {
     let r = subtrees::locate(parents, label, tour, lift, order, work, part);

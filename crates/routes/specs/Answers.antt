@@ -1,7 +1,6 @@
 -- What the calls that answer give, from their inputs alone: pairs by a route, the trail of a pair, and the carrier of a list.
 -- Assumes nothing.
 use Rattle.std.specs.Prelude.{ℕ, ◌<◌, ◌≡◌, List, [], ◌∷◌, length, get_or}
-use Rattle.std.specs.Borrow.{Bor}
 use Rattle.tree.specs.declared.Outcome.{Outcome}
 use Rattle.tree.specs.declared.Traced.{Traced}
 use Rattle.tree.specs.Verdict.{Verdict, accepted, told, lifts_of}
@@ -26,10 +25,10 @@ pub record Asked : Type 0 where
   pub question : List ℕ
   pub answer : List ℕ
 
--- the same, from its references
-abbrev pub asked_by : (parents label tour lift order work question answer : Bor (List ℕ)) → Asked
+-- the same, from the cells behind its references
+abbrev pub asked_by : (parents label tour lift order work question answer : List ℕ) → Asked
 asked_by parents label tour lift order work question answer =
-    record { lent = lent_by parents label tour lift order; work = work.now; question = question.now; answer = answer.now }
+    record { lent = lent_by parents label tour lift order; work = work; question = question; answer = answer }
 
 -- ---- pairs
 

@@ -29,7 +29,7 @@ pub(crate) fn admit(
     question: &[u16],
     unfit: usize,
 ) -> Outcome
-    ensures { Admitted (lent_by parents.entry label.entry tour.entry lift.entry order.entry)
+    ensures { Admitted (lent_by parents.now label.now tour.now lift.now order.now)
         work.old question.now unfit result work.new }
 {
     let r = tables::admit_lent(parents, label, tour, lift, order, unfit, work);

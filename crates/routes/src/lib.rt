@@ -37,7 +37,7 @@ pub fn pairs_by_labels(
     answer: &mut [u16],
 ) -> Outcome
     ensures { PairsGive by_labels
-        (asked_by parents.entry label.entry tour.entry lift.entry order.entry work.entry question.entry answer.entry)
+        (asked_by parents.now label.now tour.now lift.now order.now work.old question.now answer.old)
         result work.new answer.new }
 {
     pairs(
@@ -65,7 +65,7 @@ pub fn pairs_by_tour(
     answer: &mut [u16],
 ) -> Outcome
     ensures { PairsGive by_tour
-        (asked_by parents.entry label.entry tour.entry lift.entry order.entry work.entry question.entry answer.entry)
+        (asked_by parents.now label.now tour.now lift.now order.now work.old question.now answer.old)
         result work.new answer.new }
 {
     pairs(
@@ -93,7 +93,7 @@ pub fn pairs_by_lifts(
     answer: &mut [u16],
 ) -> Outcome
     ensures { PairsGive by_lifts
-        (asked_by parents.entry label.entry tour.entry lift.entry order.entry work.entry question.entry answer.entry)
+        (asked_by parents.now label.now tour.now lift.now order.now work.old question.now answer.old)
         result work.new answer.new }
 {
     pairs(
@@ -122,7 +122,7 @@ pub fn pairs(
     answer: &mut [u16],
 ) -> Outcome
     ensures { PairsGive (rule_of route)
-        (asked_by parents.entry label.entry tour.entry lift.entry order.entry work.entry question.entry answer.entry)
+        (asked_by parents.now label.now tour.now lift.now order.now work.old question.now answer.old)
         result work.new answer.new }
 {
     let unfit = ask::pairs_unfit(question.len(), answer.len());
@@ -148,7 +148,7 @@ pub fn trail(
     rows: &mut [u16],
 ) -> Traced
     ensures { TrailGives
-        (asked_by parents.entry label.entry tour.entry lift.entry order.entry work.entry question.entry answer.entry)
+        (asked_by parents.now label.now tour.now lift.now order.now work.old question.now answer.old)
         rows.old result work.new answer.new rows.new }
 {
     let unfit = ask::trail_unfit(question.len(), answer.len(), rows.len());
@@ -173,7 +173,7 @@ pub fn list(
     answer: &mut [u16],
 ) -> Outcome
     ensures { ListGives
-        (asked_by parents.entry label.entry tour.entry lift.entry order.entry work.entry question.entry answer.entry)
+        (asked_by parents.now label.now tour.now lift.now order.now work.old question.now answer.old)
         result work.new answer.new }
 {
     let unfit = ask::list_unfit(answer.len());

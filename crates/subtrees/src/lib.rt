@@ -23,7 +23,7 @@ pub fn locate(
     work: &mut [u16],
     part: usize,
 ) -> Located
-    ensures { LocateGives (lent_by parents.entry label.entry tour.entry lift.entry order.entry)
+    ensures { LocateGives (lent_by parents.now label.now tour.now lift.now order.now)
         part work.old result work.new }
 {
     let r = tables::compare(parents, label, tour, lift, order, work);
@@ -44,7 +44,7 @@ pub fn subtree<'a>(
     work: &mut [u16],
     part: usize,
 ) -> &'a [u16]
-    ensures { SubtreeGives (lent_by parents.entry label.entry tour.entry lift.entry order.entry) order.entry
+    ensures { SubtreeGives (lent_by parents.now label.now tour.now lift.now order.now) order.entry
         part work.old result work.new }
 {
     let found = locate(parents, label, tour, lift, order, work, part);

@@ -20,7 +20,7 @@ pub(crate) fn tables(
     order: &mut [u16],
     work: &mut [u16],
 )
-    requires { Fits (lent_by parents label tour lift order) work.old }
+    requires { Fits (lent_by parents.now label.old tour.old lift.old order.old) work.old }
     ensures { Built parents.now label.new tour.new lift.new order.new work.new }
 {
     self::label(parents, label, work);

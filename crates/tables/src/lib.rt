@@ -64,7 +64,7 @@ pub fn build(
     order: &mut [u16],
     work: &mut [u16],
 ) -> Outcome
-    ensures { BuildGives (lent_by parents.entry label.entry tour.entry lift.entry order.entry)
+    ensures { BuildGives (lent_by parents.now label.old tour.old lift.old order.old)
         work.old result label.new tour.new lift.new order.new work.new }
 {
     let n = parents.len();
@@ -95,7 +95,7 @@ pub fn compare(
     order: &[u16],
     work: &mut [u16],
 ) -> Outcome
-    ensures { LentGives (lent_by parents.entry label.entry tour.entry lift.entry order.entry)
+    ensures { LentGives (lent_by parents.now label.now tour.now lift.now order.now)
         0 work.old result work.new }
 {
     admit_lent(parents, label, tour, lift, order, 0, work)
@@ -112,7 +112,7 @@ pub fn admit_lent(
     further: usize,
     work: &mut [u16],
 ) -> Outcome
-    ensures { LentGives (lent_by parents.entry label.entry tour.entry lift.entry order.entry)
+    ensures { LentGives (lent_by parents.now label.now tour.now lift.now order.now)
         further work.old result work.new }
 {
     let n = parents.len();

@@ -27,9 +27,9 @@ pub(crate) fn tables(
     order: &[u16],
     work: &mut [u16],
 ) -> Outcome
-    requires { Fits (lent_by parents label tour lift order) work.old }
+    requires { Fits (lent_by parents.now label.now tour.now lift.now order.now) work.old }
     ensures { verdict_of result ≡ verdict
-        (stale_table (lent_by parents.entry label.entry tour.entry lift.entry order.entry) ∷ []) }
+        (stale_table (lent_by parents.now label.now tour.now lift.now order.now) ∷ []) }
 {
     let at = self::label(parents, label, work);
     if at < label.len() {

@@ -1,7 +1,6 @@
 -- A sheet with the tables that are lent with it, and a sheet's own tables.
 -- Assumes nothing.
 use Rattle.std.specs.Prelude.{ℕ, List, ◌++◌}
-use Rattle.std.specs.Borrow.{Bor}
 use Rattle.tree.specs.Labels.{label_table}
 use Rattle.tree.specs.Tour.{tour_table}
 use Rattle.tree.specs.Lifts.{lift_table}
@@ -15,10 +14,10 @@ pub record Lent : Type 0 where
   pub lift : List ℕ
   pub order : List ℕ
 
--- what a call is lent, from its references
-abbrev pub lent_by : (parents label tour lift order : Bor (List ℕ)) → Lent
+-- what a call is lent, from the cells behind its references
+abbrev pub lent_by : (parents label tour lift order : List ℕ) → Lent
 lent_by parents label tour lift order =
-    record { parents = parents.now; label = label.now; tour = tour.now; lift = lift.now; order = order.now }
+    record { parents = parents; label = label; tour = tour; lift = lift; order = order }
 
 -- "Its own tables hold in every cell what is defined .. from that sheet"
 abbrev pub own : List ℕ → Lent

@@ -12,7 +12,7 @@ use lib.ListN.{length}
 
 -- what is lent
 abbrev asked : tie.Start → Asked
-asked c = let a = c.args in asked_by a.parents a.label a.tour a.lift a.order a.work a.question a.answer
+asked c = let a = c.args in asked_by a.parents.now a.label.now a.tour.now a.lift.now a.order.now a.work.now a.question.now a.answer.now
 
 -- where the call began
 abbrev start : tie.After-pairs-unfit → tie.Start

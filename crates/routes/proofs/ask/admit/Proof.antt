@@ -8,7 +8,7 @@ use Rattle.routes.proofs.ask.admit.Tie as tie
 
 -- what is lent
 abbrev lent : tie.Start → Lent
-lent c = let a = c.args in lent_by a.parents a.label a.tour a.lift a.order
+lent c = let a = c.args in lent_by a.parents.now a.label.now a.tour.now a.lift.now a.order.now
 
 -- where the call began
 abbrev start : tie.After-admit-lent → tie.Start

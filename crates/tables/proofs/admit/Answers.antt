@@ -1,0 +1,28 @@
+-- `tables::admit` meets its contract: refusals 1 to 3 come before work is touched; else tests 4 to 7 decide, and work is cleared.
+-- Assumes nothing.
+use native.Mathlib.Omega.{arith}
+use mathlib.Core.Path.{ap, ◌∙◌}
+use borrow.Author.Rules.{rules}
+use lib.Dec.{lit≤}
+use lib.ListN.{replicate}
+use Rattle.tables.proofs.Lending.{sizes-refuse, sizes-hold, tree-tested}
+use Rattle.tables.proofs.admit.Goals as goal
+
+pub returns-in_default : goal.returns-in_default
+returns-in_default c =
+    let a = c.args in
+    sizes-refuse a.parents.now a.unfit c.test_sizes-sizes.ensures a.work.now c.in_default.is
+
+pub test_tree-r-requires : goal.test_tree-r-requires
+test_tree-r-requires c =
+    let (some, small, fits) = sizes-hold c.args.parents.now c.args.unfit c.test_sizes-sizes.ensures c.in-Accepted.is in
+    let room = c.requires some small fits in
+    let same = c.clear.auto.buffer in
+    (record { small = small; room = omega arith }, lit≤ tt)
+
+pub returns : goal.returns
+returns c =
+    let a = c.args in
+    let same = c.test_tree-r.auto.work ∙ c.clear.auto.buffer in
+    tree-tested a.parents.now a.unfit c.test_sizes-sizes.ensures c.in-Accepted.is c.test_tree-r.ensures.outcome
+    (c.clear-2.ensures ∙ ap (λ k. replicate k 0) same)
