@@ -18,8 +18,15 @@ import sys
 LIBRARY = re.compile(r'_[A-Z]')
 # Names of the library and of what Rattle generates in camel case.
 THEIRS = {'inputTy', 'nextLfts'}
-# The plain spelling is a word of the library with another meaning.
-OTHERWISE = {'countBy': 'count_by_verdict'}
+# The plain spelling is a word of the library with another meaning, or that of a definition beside the field or law that says it of a length.
+OTHERWISE = {
+    'countBy': 'count_by_verdict',
+    'label-cells': 'label_length',
+    'tour-cells': 'tour_length',
+    'lift-cells': 'lift_length',
+    'order-cells': 'order_length',
+    'trail-cells': 'trail_length',
+}
 NAME = r"[A-Za-z0-9_₀-₉ᴰ'′-]"
 TOKEN = re.compile(r"(?<!%s)[a-z]%s*" % (NAME, NAME))
 DECLARED = re.compile(r"^\s*(?:pub |abbrev |unfoldable |data )*([a-z]%s*) :" % NAME)
@@ -65,7 +72,7 @@ def renames():
     table = {t: OTHERWISE.get(t, snake(t)) for t in camel if not re.search('-[A-Z]', t)}
     words = {n for n in table.values() if '_' in n and '-' not in n}
     for name in declared - camel:
-        new = joined(name, words)
+        new = OTHERWISE.get(name) or joined(name, words)
         if new in words:
             new += '_lem'
         if new != name:

@@ -99,9 +99,9 @@ pub sized-as : {t : Lent} {work s : List ℕ} → Sized t work → length s ≡ 
 sized-as z e = record {
   some = rw e z.some;
   small = rw e z.small;
-  label_cells_lem = rw e z.label_cells_lem;
-  tour_cells_lem = rw e z.tour_cells_lem;
-  lift_cells_lem = rw e z.lift_cells_lem;
-  order_cells_lem = rw e z.order_cells_lem;
+  label_length = rw e z.label_length;
+  tour_length = rw e z.tour_length;
+  lift_length = rw e z.lift_length;
+  order_length = rw e z.order_length;
   room = rw e z.room;
 }

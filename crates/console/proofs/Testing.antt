@@ -30,10 +30,10 @@ pub sized_of : {t : Lent} {work : List ℕ} (n : ℕ) → 0 < n → n ≤ most �
 sized_of n some small long label tour lift order room = record {
   some = rw (← long) some;
   small = rw (← long) small;
-  label_cells_lem = rw (← long) (sym label);
-  tour_cells_lem = rw (← long) (sym tour);
-  lift_cells_lem = rw (← long) (sym lift);
-  order_cells_lem = rw (← long) (sym order);
+  label_length = rw (← long) (sym label);
+  tour_length = rw (← long) (sym tour);
+  lift_length = rw (← long) (sym lift);
+  order_length = rw (← long) (sym order);
   room = rw (← long) (sym room);
 }
 
@@ -42,10 +42,10 @@ module _ {t : Lent} {work label' tour' lift' order' work' : List ℕ} {r : Outco
   -- no buffer does not fit
   fits : unfit_of t work 0 ≡ 0
   fits =
-      let label = eq-eqb _ _ sized.label_cells_lem in
-      let tour = eq-eqb _ _ sized.tour_cells_lem in
-      let lift = eq-eqb _ _ sized.lift_cells_lem in
-      fitting-none _ (label, (tour, (lift, (eq-eqb _ _ sized.room, (eq-eqb _ _ sized.order_cells_lem, tt)))))
+      let label = eq-eqb _ _ sized.label_length in
+      let tour = eq-eqb _ _ sized.tour_length in
+      let lift = eq-eqb _ _ sized.lift_length in
+      fitting-none _ (label, (tour, (lift, (eq-eqb _ _ sized.room, (eq-eqb _ _ sized.order_length, tt)))))
 
   -- so that the sheet alone decides
   sheet-decides : verdict_of r ≡ verdict (sheet_tests t.parents 0)

@@ -75,8 +75,8 @@ pub record Found (s : List ℕ) (x y carrier left right : ℕ) : Type 0 where
 pub record Sized (t : Lent) (work : List ℕ) : Type 0 where
   pub some : 0 < length t.parents
   pub small : length t.parents ≤ most
-  pub label_cells_lem : length t.label ≡ label_cells (length t.parents)
-  pub tour_cells_lem : length t.tour ≡ tour_cells (length t.parents)
-  pub lift_cells_lem : length t.lift ≡ lift_cells (length t.parents)
-  pub order_cells_lem : length t.order ≡ order_cells (length t.parents)
+  pub label_length : length t.label ≡ label_cells (length t.parents)
+  pub tour_length : length t.tour ≡ tour_cells (length t.parents)
+  pub lift_length : length t.lift ≡ lift_cells (length t.parents)
+  pub order_length : length t.order ≡ order_cells (length t.parents)
   pub room : length work ≡ work_cells (length t.parents)

@@ -75,7 +75,7 @@ pub record Runs (s : List ℕ) : Type 0 where
   pub some_pair : Some s (x ∷ y ∷ [])
   pub trail-of : TrailRun
   pub trail-lent : Lends s (x ∷ y ∷ []) 1 (traced trail-of)
-  pub trail_cells_lem : length (rows_before trail-of) ≡ trail_cells
+  pub trail_length : length (rows_before trail-of) ≡ trail_cells
 
 -- what is claimed of it
 pub record Agree (s : List ℕ) (runs : Runs s) : Type 0 where
@@ -182,7 +182,7 @@ module _ (s : List ℕ) (accepts : tests.Accepted s) (runs : Runs s) where
       let (other-yes, other) = list-granted s accepts {a = asked runs.other-list} others runs.other-lent runs.other-list.kept in
       let (groups-yes, groups) = list-granted s accepts {a = asked runs.of-groups} carriers runs.of-groups-lent runs.of-groups.kept in
       let (count, carrier, rows) =
-      trail-granted s accepts {a = traced runs.trail-of} runs.some_pair runs.trail-lent runs.trail_cells_lem runs.trail-of.kept in
+      trail-granted s accepts {a = traced runs.trail-of} runs.some_pair runs.trail-lent runs.trail_length runs.trail-of.kept in
       let found = lca-found tree runs.listed some.listed some.parts in
       let is : get_or (answers runs.list) 0 0 ≡ lca s runs.listed = ap (λ (l : List ℕ). get_or l 0 0) list in
       record {

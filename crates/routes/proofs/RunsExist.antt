@@ -218,7 +218,7 @@ runs-exist s accepts question asked parts even listed other named parts-listed s
         some_pair = pair;
         trail-of = trail-run s accepts x y pair;
         trail-lent = lends s (x ∷ y ∷ []) 1;
-        trail_cells_lem = zeros-length trail_cells;
+        trail_length = zeros-length trail_cells;
       },
       record { the-question = refl; the-list = refl; the-other = refl; the-groups = refl; the-sharing = refl; the-left = refl; the-right = refl },
     )

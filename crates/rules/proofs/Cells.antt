@@ -21,8 +21,8 @@ use Rattle.tree.proofs.OwnCells.{number-at}
 
 module _ (s : List ℕ) {label : List ℕ} (mine : label ≡ label_table s) where
   -- six columns of n cells
-  pub label_cells_lem : length label ≡ label_cells (length s)
-  label_cells_lem = ap length mine ∙ label-length s
+  pub label_length : length label ≡ label_cells (length s)
+  label_length = ap length mine ∙ label-length s
 
   -- cell i: the rules begin to count at the first column, cell 0
   pub label_at : (i : ℕ) → get_or label i 0 ≡ get_or (label_table s) (0 + i) 0
@@ -48,8 +48,8 @@ module _ (s : List ℕ) {label : List ℕ} (mine : label ≡ label_table s) wher
       ap (λ (l : List ℕ). get_or l (length s + v) 0) mine ∙ ap (λ (i : ℕ). get_or (label_table s) i 0) same ∙ label-cell s 1 v (omega arith) h
 
 -- the tour, the first positions, and then rows 0 to log (2n−1)
-pub tour_cells_lem : {s tour : List ℕ} → Tree s → tour ≡ tour_table s
+pub tour_length : {s tour : List ℕ} → Tree s → tour ≡ tour_table s
     → length tour ≡ visits (length s) + length s + suc (log2 (visits (length s))) * visits (length s)
-tour_cells_lem {s} t mine =
+tour_length {s} t mine =
     let m = visits (length s) in
     ap length mine ∙ tour_table-length s (tour-length t) ∙ tour-sizes m (length s) (log2 m)

@@ -16,7 +16,7 @@ use Rattle.tree.specs.Tour.{sparse, tour_table}
 use Rattle.tree.specs.Routes.{block_log, last_block}
 use Rattle.rules.specs.declared.blocks.Covered.{Covered}
 use Rattle.rules.specs.Tour.{Covers, Below, last_visit, Back}
-use Rattle.rules.proofs.Cells.{label_cells_lem, size-cell}
+use Rattle.rules.proofs.Cells.{label_length, size-cell}
 use Rattle.rules.proofs.TourCells.{First, first}
 use Rattle.tree.proofs.Scans.{by_order}
 use Rattle.tree.proofs.Climbs.{ancestor-refl, ancestor-parent, ancestor-inside}
@@ -152,7 +152,7 @@ stretch {s} {label} {tour} {c} b mine yours =
     record {
       begins = first t yours b.node;
       whole = first t yours part;
-      room = omega (arith, label_cells_lem s mine);
+      room = omega (arith, label_length s mine);
       count = size-cell s mine c part;
       some = omega (arith, size-sum t c part);
       within = visits-end t c part;

@@ -21,7 +21,7 @@ use Rattle.tree.proofs.OwnCells.{visit-at, first-at, sparse_at_lem}
 use Rattle.tree.proofs.ByTour.{blocks-fit, block-node}
 use Rattle.rules.specs.declared.blocks.Covered.{Covered}
 use Rattle.rules.specs.Tour.{Covers}
-use Rattle.rules.proofs.Cells.{tour_cells_lem}
+use Rattle.rules.proofs.Cells.{tour_length}
 
 -- ---- first positions
 
@@ -36,7 +36,7 @@ pub first : {s tour : List ℕ} {v : ℕ} → Tree s → tour ≡ tour_table s �
 first {s} {tour} {v} t mine h =
     let is : get_or tour (visits (length s) + v) 0 ≡ first_at (own s) v = ap (λ (l : List ℕ). get_or l (visits (length s) + v) 0) mine in
     let visit = is ∙ first-at t v h in
-    record { room = omega (arith, tour_cells_lem t mine); position = rw visit (first-inside t v h); is = is; visit = visit }
+    record { room = omega (arith, tour_length t mine); position = rw visit (first-inside t v h); is = is; visit = visit }
 
 -- ---- visits
 
@@ -49,7 +49,7 @@ pub record Visited (s tour : List ℕ) (p : ℕ) : Type 0 where
 pub visited : {s tour : List ℕ} {p : ℕ} → Tree s → tour ≡ tour_table s → p < visits (length s) → Visited s tour p
 visited {s} {tour} {p} t mine h =
     let is : get_or tour p 0 ≡ get_or (tour_of s) p 0 = ap (λ (l : List ℕ). get_or l p 0) mine ∙ visit-at t p h in
-    record { room = omega (arith, tour_cells_lem t mine); node = rw is (visit-part t p h); is = is }
+    record { room = omega (arith, tour_length t mine); node = rw is (visit-part t p h); is = is }
 
 -- ---- blocks
 
@@ -73,7 +73,7 @@ block {s} {tour} t mine k i few fit =
     let is : get_or tour (row_cell (length s) k i) 0 ≡ sparse s k i =
     ap (λ (l : List ℕ). get_or l (row_cell (length s) k i) 0) mine ∙ ap (λ (x : ℕ). get_or (tour_table s) x 0) same ∙ sparse_at_lem t k i few b in
     let to = sparse-to s k i fit in
-    record { room = omega (arith, tour_cells_lem t mine); position = rw is (omega arith); is = is }
+    record { room = omega (arith, tour_length t mine); position = rw is (omega arith); is = is }
 
 -- the two blocks of the positions i to j, the second from a on
 pub record Blocks (s tour : List ℕ) (i j k a : ℕ) : Type 0 where

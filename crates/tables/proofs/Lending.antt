@@ -51,10 +51,10 @@ tested-fits t work after further unfit found tested e same =
     let x = exact t work further (sym (found some small.most) ∙ none) in
     record {
       ready = record { tree = small.tree; small = small.most; room = same ∙ x.work_cells_lem };
-      label_cells_lem = x.label_cells_lem;
-      tour_cells_lem = x.tour_cells_lem;
-      lift_cells_lem = x.lift_cells_lem;
-      order_cells_lem = x.order_cells_lem;
+      label_length = x.label_length;
+      tour_length = x.tour_length;
+      lift_length = x.lift_length;
+      order_length = x.order_length;
     }
 
 -- ---- tests 1 to 3, and then 4 to 7

@@ -24,16 +24,16 @@ use Rattle.tables.proofs.TableRows.{own-tour-length}
 module _ {t : Lent} {work : List ℕ} (f : Fits t work) where
   -- each table is as long as the sheet's own
   label_same : length t.label ≡ length (label_table t.parents)
-  label_same = f.label_cells_lem ∙ sym (label-length t.parents)
+  label_same = f.label_length ∙ sym (label-length t.parents)
 
   tour-same : length t.tour ≡ length (tour_table t.parents)
-  tour-same = f.tour_cells_lem ∙ sym (own-tour-length f.ready)
+  tour-same = f.tour_length ∙ sym (own-tour-length f.ready)
 
   lift-same : length t.lift ≡ length (lift_table t.parents)
-  lift-same = f.lift_cells_lem ∙ sym (lift-length t.parents)
+  lift-same = f.lift_length ∙ sym (lift-length t.parents)
 
   order_same : length t.order ≡ length (preorder t.parents)
-  order_same = f.order_cells_lem ∙ sym (preorder-length f.ready.tree)
+  order_same = f.order_length ∙ sym (preorder-length f.ready.tree)
 
   -- the sheet's own from the tour table on, and from the lift table on
   abbrev later : List ℕ

@@ -12,10 +12,10 @@ use Rattle.tree.specs.Ready.{Ready}
 -- an accepted sheet with tables and work of their exact lengths
 pub record Fits (t : Lent) (work : List ℕ) : Type 0 where
   pub ready : Ready t.parents work
-  pub label_cells_lem : length t.label ≡ label_cells (length t.parents)
-  pub tour_cells_lem : length t.tour ≡ tour_cells (length t.parents)
-  pub lift_cells_lem : length t.lift ≡ lift_cells (length t.parents)
-  pub order_cells_lem : length t.order ≡ order_cells (length t.parents)
+  pub label_length : length t.label ≡ label_cells (length t.parents)
+  pub tour_length : length t.tour ≡ tour_cells (length t.parents)
+  pub lift_length : length t.lift ≡ lift_cells (length t.parents)
+  pub order_length : length t.order ≡ order_cells (length t.parents)
 
 -- the sheet's own tables, and work cleared
 pub record Built (s label' tour' lift' order' work' : List ℕ) : Type 0 where

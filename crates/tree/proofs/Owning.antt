@@ -42,11 +42,11 @@ sheet-exact s work further e =
 
 -- with tables: each has its exact length, and no further one is named
 pub record Exact (t : Lent) (work : List ℕ) (further : ℕ) : Type 0 where
-  pub label_cells_lem : length t.label ≡ label_cells (length t.parents)
-  pub tour_cells_lem : length t.tour ≡ tour_cells (length t.parents)
-  pub lift_cells_lem : length t.lift ≡ lift_cells (length t.parents)
+  pub label_length : length t.label ≡ label_cells (length t.parents)
+  pub tour_length : length t.tour ≡ tour_cells (length t.parents)
+  pub lift_length : length t.lift ≡ lift_cells (length t.parents)
   pub work_cells_lem : length work ≡ work_cells (length t.parents)
-  pub order_cells_lem : length t.order ≡ order_cells (length t.parents)
+  pub order_length : length t.order ≡ order_cells (length t.parents)
   pub further-fits : further ≡ 0
 
 pub exact : (t : Lent) (work : List ℕ) (further : ℕ) → unfit_of t work further ≡ 0 → Exact t work further
@@ -56,11 +56,11 @@ exact t work further e =
     let (mine, none) = lower-none _ further e in
     let (label, (tour, (lift, (room, (order, _))))) = none-fitting 0 fits (lit< tt, (lit< tt, (lit< tt, (lit< tt, (lit< tt, tt))))) mine in
     record {
-      label_cells_lem = eqb-true _ _ label;
-      tour_cells_lem = eqb-true _ _ tour;
-      lift_cells_lem = eqb-true _ _ lift;
+      label_length = eqb-true _ _ label;
+      tour_length = eqb-true _ _ tour;
+      lift_length = eqb-true _ _ lift;
       work_cells_lem = eqb-true _ _ room;
-      order_cells_lem = eqb-true _ _ order;
+      order_length = eqb-true _ _ order;
       further-fits = none;
     }
 
@@ -119,10 +119,10 @@ module _ (t : Lent) (work : List ℕ) (further : ℕ) where
       let (sheet, stale) = accepted-both (sheet_tests s unfit) (stale_table t ∷ []) e in
       let (none, small) = accepted-small s unfit sheet in
       let x = exact t work further none in
-      let label : length t.label ≡ length (label_table s) = x.label_cells_lem ∙ sym (label-length s) in
-      let tour : length t.tour ≡ length (tour_table s) = x.tour_cells_lem ∙ sym (tour_table-length s (tour-length small.tree)) in
-      let lift : length t.lift ≡ length (lift_table s) = x.lift_cells_lem ∙ sym (lift-length s) in
-      let order : length t.order ≡ length (preorder s) = x.order_cells_lem ∙ sym (preorder-length small.tree) in
+      let label : length t.label ≡ length (label_table s) = x.label_length ∙ sym (label-length s) in
+      let tour : length t.tour ≡ length (tour_table s) = x.tour_length ∙ sym (tour_table-length s (tour-length small.tree)) in
+      let lift : length t.lift ≡ length (lift_table s) = x.lift_length ∙ sym (lift-length s) in
+      let order : length t.order ≡ length (preorder s) = x.order_length ∙ sym (preorder-length small.tree) in
       let long =
       append-length t.label _ (label_table s) _ label
       (append-length t.tour _ (tour_table s) _ tour (append-length t.lift t.order (lift_table s) (preorder s) lift order)) in

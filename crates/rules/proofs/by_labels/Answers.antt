@@ -6,7 +6,7 @@ use mathlib.Core.Path.{sym, ◌∙◌}
 use borrow.Author.Rules.{rules}
 use lib.ListN.{length, get_or}
 use Rattle.tree.specs.Routes.{label_above}
-use Rattle.rules.proofs.Cells.{label_cells_lem}
+use Rattle.rules.proofs.Cells.{label_length}
 use Rattle.rules.proofs.Toward.{Steps, labels-equal, labels-other}
 use Rattle.rules.proofs.by_labels.Goals as goal
 
@@ -51,13 +51,13 @@ returns c =
     record { is = r.is ∙ rw (c.step3-b.ensures.is, c.step3-a.ensures.is) (sym paths.answer); below = r.below }
 
 pub bounds-label-n : goal.bounds-label-n
-bounds-label-n c = omega (arith, label_cells_lem _ c.requires.1)
+bounds-label-n c = omega (arith, label_length _ c.requires.1)
 
 pub bounds-label-n-2 : goal.bounds-label-n-2
-bounds-label-n-2 c = omega (arith, label_cells_lem _ c.requires.1)
+bounds-label-n-2 c = omega (arith, label_length _ c.requires.1)
 
 pub bounds-label-n-3 : goal.bounds-label-n-3
-bounds-label-n-3 c = omega (arith, label_cells_lem _ c.requires.1)
+bounds-label-n-3 c = omega (arith, label_length _ c.requires.1)
 
 pub bounds-label-n-4 : goal.bounds-label-n-4
-bounds-label-n-4 c = omega (arith, label_cells_lem _ c.requires.1)
+bounds-label-n-4 c = omega (arith, label_length _ c.requires.1)

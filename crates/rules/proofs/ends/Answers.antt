@@ -9,7 +9,7 @@ use borrow.Author.Rules.{rules}
 use borrow.Author.Tests.{lt-ltb, le-ltb}
 use lib.Dec.{ltb}
 use lib.ListN.{length, get_or}
-use Rattle.rules.proofs.Cells.{label_cells_lem}
+use Rattle.rules.proofs.Cells.{label_length}
 use Rattle.rules.proofs.Scanned.{Scanned, scanned-start, scanned-step, scanned-end}
 use Rattle.rules.proofs.ends.Goals as goal
 use Rattle.rules.proofs.ends.Goals.{then-label-v, then-label-last, else-label-v, else-label-last}
@@ -46,17 +46,17 @@ returns c = scanned-end c.loop-i.invariant.1 (omega arith)
 pub bounds-label-v : goal.bounds-label-v
 bounds-label-v c =
     let node : (let s = c.args in get_or s.question.now c.loop-i.i 0 < length s.parents.now) = (c.requires.0.part c.loop-i.i c.loop-i-test.true) in
-    let d = node in omega (arith, label_cells_lem _ c.requires.1)
+    let d = node in omega (arith, label_length _ c.requires.1)
 
 pub bounds-label-first : goal.bounds-label-first
-bounds-label-first c = omega (arith, label_cells_lem _ c.requires.1)
+bounds-label-first c = omega (arith, label_length _ c.requires.1)
 
 pub bounds-label-last : goal.bounds-label-last
-bounds-label-last c = omega (arith, label_cells_lem _ c.requires.1)
+bounds-label-last c = omega (arith, label_length _ c.requires.1)
 
 -- `node`: the node that is compared
 pub bounds-label-v-in-loop-i : goal.bounds-label-v-in-loop-i
 bounds-label-v-in-loop-i c =
     let node : (let s = c.args in get_or s.question.now c.loop-i.i 0 < length s.parents.now) = (c.requires.0.part c.loop-i.i c.loop-i-test.true) in
     let d = node in
-    omega (arith, label_cells_lem _ c.requires.1)
+    omega (arith, label_length _ c.requires.1)

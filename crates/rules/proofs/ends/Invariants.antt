@@ -9,7 +9,7 @@ use borrow.Author.Rules.{rules}
 use borrow.Author.Tests.{lt-ltb, le-ltb}
 use lib.Dec.{ltb}
 use lib.ListN.{length, get_or}
-use Rattle.rules.proofs.Cells.{label_cells_lem}
+use Rattle.rules.proofs.Cells.{label_length}
 use Rattle.rules.proofs.Scanned.{Scanned, scanned-start, scanned-step, scanned-end}
 use Rattle.rules.proofs.ends.Given as goal
 

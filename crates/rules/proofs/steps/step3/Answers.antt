@@ -3,7 +3,7 @@
 use native.Mathlib.Omega.{arith}
 use mathlib.Core.Path.{◌≡◌}
 use borrow.Author.Rules.{rules}
-use Rattle.rules.proofs.Cells.{label_cells_lem}
+use Rattle.rules.proofs.Cells.{label_length}
 use Rattle.rules.proofs.Toward.{HeadCell, path_read, path-head, step3-here, step3-head}
 use Rattle.rules.proofs.steps.step3.Goals as goal
 
@@ -18,10 +18,10 @@ returns-else-iv-iz c =
     rw path (step3-head c.requires.0 c.requires.1 c.if-iv-iz.false)
 
 pub bounds-label-n : goal.bounds-label-n
-bounds-label-n c = omega (arith, label_cells_lem _ c.requires.1)
+bounds-label-n c = omega (arith, label_length _ c.requires.1)
 
 pub bounds-label-n-2 : goal.bounds-label-n-2
-bounds-label-n-2 c = omega (arith, label_cells_lem _ c.requires.1)
+bounds-label-n-2 c = omega (arith, label_length _ c.requires.1)
 
 -- `path`: the label of which HEAD is read
 pub bounds-label-n-3 : goal.bounds-label-n-3
@@ -29,7 +29,7 @@ bounds-label-n-3 c =
     let path : (let a = c.args in
     c.path_read-path.result ≡ path_read a.parents.now a.label.now a.v a.j a.iz) = (rw (c.path_read-path.ensures, c.log2-k.ensures.is, c.bits_below.ensures)) in
     let head : (let a = c.args in HeadCell a.parents.now a.label.now c.path_read-path.result) = (rw path (path-head c.requires.0 c.requires.1)) in
-    let d = head in omega (arith, label_cells_lem _ c.requires.1)
+    let d = head in omega (arith, label_length _ c.requires.1)
 
 -- `path`: the label of which HEAD is read
 pub bounds-parents-head : goal.bounds-parents-head

@@ -13,7 +13,7 @@ returns-then-at-label c = stale-label c.requires c.label-at.ensures c.if-at-labe
 pub tour-at-requires : goal.tour-at-requires
 tour-at-requires c =
     let f = c.requires in
-    (columns-all (ready-kept f.ready c.label-at.auto.work) f.label_cells_lem c.label-at.ensures c.if-at-label.false, f.tour_cells_lem)
+    (columns-all (ready-kept f.ready c.label-at.auto.work) f.label_length c.label-at.ensures c.if-at-label.false, f.tour_length)
 
 pub returns-then-at-tour : goal.returns-then-at-tour
 returns-then-at-tour c =
@@ -22,25 +22,25 @@ returns-then-at-tour c =
 pub lift-at-requires : goal.lift-at-requires
 lift-at-requires c =
     let f = c.requires in
-    (ready-kept f.ready (c.tour-at.auto.work ∙ c.label-at.kept.1.1.0), f.lift_cells_lem)
+    (ready-kept f.ready (c.tour-at.auto.work ∙ c.label-at.auto.work), f.lift_length)
 
 pub returns-then-at-lift : goal.returns-then-at-lift
 returns-then-at-lift c =
-    stale-lift c.requires c.label-at.ensures c.if-at-label.left c.tour-at.ensures c.if-at-tour.false c.lift-at.ensures
+    stale-lift c.requires c.label-at.ensures c.if-at-label.false c.tour-at.ensures c.if-at-tour.false c.lift-at.ensures
     c.if-at-lift.true
 
 pub order-at-requires : goal.order-at-requires
 order-at-requires c =
     let f = c.requires in
-    let same = c.lift-at.auto.work ∙ c.tour-at.kept.1.1.1.0 ∙ c.label-at.kept.1.1.0 in
-    (columns-all (ready-kept f.ready same) f.label_cells_lem c.label-at.ensures c.if-at-label.left, f.order_cells_lem)
+    let same = c.lift-at.auto.work ∙ c.tour-at.auto.work ∙ c.label-at.auto.work in
+    (columns-all (ready-kept f.ready same) f.label_length c.label-at.ensures c.if-at-label.false, f.order_length)
 
 pub returns-then-at-order : goal.returns-then-at-order
 returns-then-at-order c =
-    stale-order c.requires c.label-at.ensures c.if-at-label.left c.tour-at.ensures c.if-at-tour.left c.lift-at.ensures
+    stale-order c.requires c.label-at.ensures c.if-at-label.false c.tour-at.ensures c.if-at-tour.false c.lift-at.ensures
     c.if-at-lift.false c.order-at.ensures c.if-at-order.true
 
 pub returns : goal.returns
 returns c =
-    stale-none c.requires c.label-at.ensures c.if-at-label.left c.tour-at.ensures c.if-at-tour.left c.lift-at.ensures
+    stale-none c.requires c.label-at.ensures c.if-at-label.false c.tour-at.ensures c.if-at-tour.false c.lift-at.ensures
     c.if-at-lift.false c.order-at.ensures c.if-at-order.false
