@@ -210,11 +210,11 @@ pub five-digits : (n : ℕ) → n < 100000 → length (decimal n) ≤ 5
 five-digits n h = decimal-length 4 n h
 
 -- a list has at most six bytes for each of its numbers
-list_fits_lem : (xs : List ℕ) → Values xs → length (list_text xs) ≤ 6 * length xs
+list-fits : (xs : List ℕ) → Values xs → length (list_text xs) ≤ 6 * length xs
 unfolding list_text word_number bytes
-list_fits_lem [] v = omega arith
-list_fits_lem (x ∷ xs) v =
-    let others : length (list_text xs) ≤ 6 * length xs = list_fits_lem xs v.1 in
+list-fits [] v = omega arith
+list-fits (x ∷ xs) v =
+    let others : length (list_text xs) ≤ 6 * length xs = list-fits xs v.1 in
     let digits = five-digits x (omega (arith, v.0)) in
     simp length-append (omega arith)
 
@@ -224,7 +224,7 @@ unfolding text word_number bytes
 text-fits (machine n) h = let digits = five-digits n (omega arith) in simp length-append (omega arith)
 text-fits (part v p) (h, k) = let left = five-digits v (omega arith) in let right = five-digits p (omega arith) in simp length-append (omega arith)
 text-fits (asked (pair x y)) (h, k) = let left = five-digits x (omega arith) in let right = five-digits y (omega arith) in simp length-append (omega arith)
-text-fits (asked (many xs)) (h, v) = let numbers = list_fits_lem xs v in simp length-append (omega arith)
+text-fits (asked (many xs)) (h, v) = let numbers = list-fits xs v in simp length-append (omega arith)
 
 -- the forms begin with different words: a part is no machine
 module _ (v p : ℕ) where
