@@ -14,7 +14,7 @@ use lib.ListN.{length, length-append}
 use Rattle.text.specs.Bytes.{bytes, word_number, decimal}
 use Rattle.text.specs.Fields.{highest, after, number, number_then, whole, either}
 use Rattle.text.proofs.Decimals.{decimal-length}
-use Rattle.text.proofs.Numerals.{NoDigit, after_read_lem, after-exact, number_read, number-exact, number_then-read, number_then-exact, one-reading}
+use Rattle.text.proofs.Numerals.{NoDigit, after-read, after-exact, number_read, number-exact, number_then-read, number_then-exact, one-reading}
 use Rattle.lines.specs.Forms.{pair, many, Form, machine, part, asked, list_text, text, most_listed, Values, Legal}
 use Rattle.lines.specs.Read.{machine_form, two_numbers, part_form, pair_form, listed, many_form, longest, read}
 
@@ -27,7 +27,7 @@ behind w n b = append_assoc w (decimal n) b
 
 -- a word, and no more
 word-last : (w : List ℕ) → after w w ≡ some []
-word-last w = subst (λ (l : List ℕ). after w l ≡ some []) (append-nil w) (after_read_lem w [])
+word-last w = subst (λ (l : List ℕ). after w l ≡ some []) (append-nil w) (after-read w [])
 
 -- a number with a word behind it, and no more
 number-last : (w : List ℕ) (n : ℕ) → n ≤ highest → NoDigit w → number_then w (decimal n ++ w) ≡ some (n, [])
@@ -54,7 +54,7 @@ Is b f = (b ≡ text f) × Legal f
 -- a machine's text is read as that machine
 machine-read : (n : ℕ) → n ≤ highest → machine_form (text (machine n)) ≡ some (machine n)
 unfolding machine_form text bytes bind whole
-machine-read n h = rw (behind, after_read_lem, number-last (bytes ")") n h refl)
+machine-read n h = rw (behind, after-read, number-last (bytes ")") n h refl)
 
 -- and nothing else is read as a machine
 machine-exact : (b : List ℕ) (f : Form) → machine_form b ≡ some f → Is b f
@@ -78,7 +78,7 @@ module _ (w₁ w₂ w₃ : List ℕ) where
   two-read : (x y : ℕ) → x ≤ highest → y ≤ highest → ((b : List ℕ) → NoDigit (w₂ ++ b)) → NoDigit w₃ → two_numbers w₁ w₂ w₃ (two_text x y) ≡ some (x, y)
   unfolding two_numbers bind whole
   two-read x y h k mid end =
-      rw (behind w₁, behind w₂, after_read_lem w₁, number_then-read w₂ (decimal y ++ w₃) x h (mid (decimal y ++ w₃)), number-last w₃ y k end)
+      rw (behind w₁, behind w₂, after-read w₁, number_then-read w₂ (decimal y ++ w₃) x h (mid (decimal y ++ w₃)), number-last w₃ y k end)
 
   -- and nothing else is
   two-exact : (b : List ℕ) (two : ℕ × ℕ) → two_numbers w₁ w₂ w₃ b ≡ some two → let (x, y) = two in (b ≡ two_text x y) × ((x ≤ highest) × (y ≤ highest))
@@ -139,7 +139,7 @@ listed-read zero (x ∷ xs) b h v end = absurd (not-suc-le-zero h)
 listed-read (suc k) [] b h v end = unfold list_text in rw end.no-space
 listed-read (suc k) (x ∷ xs) b h v end =
     let others : listed k (list_text xs ++ b) ≡ some (xs, b) = listed-read k xs b (omega arith) v.1 end in
-    rw (list-more x xs b, after_read_lem, number_read x (list_text xs ++ b) v.0 (list-next xs b end.no_digit), others)
+    rw (list-more x xs b, after-read, number_read x (list_text xs ++ b) v.0 (list-next xs b end.no_digit), others)
 
 -- at most k numbers of a list were read
 record Listing (k : ℕ) (b b' xs : List ℕ) : Type 0 where
@@ -188,7 +188,7 @@ many_read : (xs : List ℕ) → length xs ≤ most_listed → Values xs → many
 unfolding many_form text bytes bind whole
 many_read xs h v =
     let close : NoMore (bytes ")") = record { no-space = unfold after in refl; no_digit = refl } in
-    rw (after_read_lem (bytes "(many"), listed-read most_listed xs (bytes ")") h v close, word-last (bytes ")"))
+    rw (after-read (bytes "(many"), listed-read most_listed xs (bytes ")") h v close, word-last (bytes ")"))
 
 -- and nothing else is
 many-exact : (b : List ℕ) (f : Form) → many_form b ≡ some f → Is b f
@@ -210,11 +210,11 @@ pub five-digits : (n : ℕ) → n < 100000 → length (decimal n) ≤ 5
 five-digits n h = decimal-length 4 n h
 
 -- a list has at most six bytes for each of its numbers
-list_fits_lem : (xs : List ℕ) → Values xs → length (list_text xs) ≤ 6 * length xs
+list-fits : (xs : List ℕ) → Values xs → length (list_text xs) ≤ 6 * length xs
 unfolding list_text word_number bytes
-list_fits_lem [] v = omega arith
-list_fits_lem (x ∷ xs) v =
-    let others : length (list_text xs) ≤ 6 * length xs = list_fits_lem xs v.1 in
+list-fits [] v = omega arith
+list-fits (x ∷ xs) v =
+    let others : length (list_text xs) ≤ 6 * length xs = list-fits xs v.1 in
     let digits = five-digits x (omega (arith, v.0)) in
     simp length-append (omega arith)
 
@@ -224,7 +224,7 @@ unfolding text word_number bytes
 text-fits (machine n) h = let digits = five-digits n (omega arith) in simp length-append (omega arith)
 text-fits (part v p) (h, k) = let left = five-digits v (omega arith) in let right = five-digits p (omega arith) in simp length-append (omega arith)
 text-fits (asked (pair x y)) (h, k) = let left = five-digits x (omega arith) in let right = five-digits y (omega arith) in simp length-append (omega arith)
-text-fits (asked (many xs)) (h, v) = let numbers = list_fits_lem xs v in simp length-append (omega arith)
+text-fits (asked (many xs)) (h, v) = let numbers = list-fits xs v in simp length-append (omega arith)
 
 -- the forms begin with different words: a part is no machine
 module _ (v p : ℕ) where

@@ -1,7 +1,7 @@
 -- The machine line, with which an input begins, by the tests of its count. What a program does with the machine is its own.
 -- Assumes nothing.
 use Rattle.std.specs.Prelude.{ℕ, List, [], ◌∷◌}
-use Rattle.std.proofs.Math.Option.{Option·elim}
+use Rattle.std.proofs.Math.Option.{Option-elim}
 use Rattle.tree.specs.declared.Refusal.TheVariants.{MalformedLine}
 use Rattle.tree.specs.Verdict.{Verdict, accepted, refused, number_of, place_of}
 use Rattle.tree.specs.Tests.{Test, verdict, empty, too_large}
@@ -32,4 +32,4 @@ no_machine = turned_away (number_of (MalformedLine 1)) (place_of (MalformedLine 
 
 -- "First the machine line"
 unfoldable pub opening : Lines → Opening
-opening ls = Option·elim (next_as machine_count ls) no_machine λ found. by_count (verdict (count_tests found.0)) found.0 found.1
+opening ls = Option-elim (next_as machine_count ls) no_machine λ found. by_count (verdict (count_tests found.0)) found.0 found.1

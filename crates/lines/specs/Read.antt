@@ -2,7 +2,7 @@
 -- exactly if its bytes are that form's text.
 -- Assumes nothing.
 use Rattle.std.specs.Prelude.{ℕ, zero, suc, cond, List, [], ◌∷◌, leb, eqb, length}
-use Rattle.std.proofs.Math.Option.{Option, none, some, Option·elim, bind as ◌>>=◌}
+use Rattle.std.proofs.Math.Option.{Option, none, some, Option-elim, bind as ◌>>=◌}
 use Rattle.text.specs.Bytes.{bytes}
 use Rattle.text.specs.Fields.{after, number, number_then, whole, either}
 use Rattle.text.specs.Lines.{Lines, tail, line}
@@ -36,7 +36,7 @@ pair_form b = do
 unfoldable pub listed : ℕ → List ℕ → Option (List ℕ × List ℕ)
 listed zero b = some ([], b)
 listed (suc k) b =
-    Option·elim (after (bytes " ") b) (some ([], b)) λ b₁. do
+    Option-elim (after (bytes " ") b) (some ([], b)) λ b₁. do
       (x, b₂) ← number b₁
       (xs, b₃) ← listed k b₂
       some (x ∷ xs, b₃)

@@ -1,7 +1,6 @@
 // The reader "holds the input and its position and takes the lines one by one". The position is that of a line's first byte.
 //
-// `line_at` does the work, and the borrow checker covers it. It covers no function over a struct that holds a reference: those of `Reader` are thin, and they and `next_line` above them are proved by walks
-// of their MIR, by hand. `next_line` has plain parameters, so whoever calls it needs no walk.
+// `line_at` does the work. The functions of `Reader` are thin, and `next_line` makes a reader at a position, has it take one line and says where it stands then.
 
 ghost use Rattle.std.specs.Prelude.{◌≤◌, ◌≡◌, length};
 ghost use Rattle.lines.specs.Forms.{most_listed};

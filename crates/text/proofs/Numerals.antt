@@ -17,10 +17,10 @@ use Rattle.text.proofs.Decimals.{by_digits, decimal-small, decimal_step}
 -- ---- words
 
 -- a word that stands there is read
-pub after_read_lem : (w b : List ℕ) → after w (w ++ b) ≡ some b
+pub after-read : (w b : List ℕ) → after w (w ++ b) ≡ some b
 unfolding after
-after_read_lem [] b = refl
-after_read_lem (x ∷ w) b = rw (eq-eqb x x refl) (after_read_lem w b)
+after-read [] b = refl
+after-read (x ∷ w) b = rw (eq-eqb x x refl) (after-read w b)
 
 -- and nothing else
 pub after-exact : (w b b' : List ℕ) → after w b ≡ some b' → b ≡ w ++ b'
@@ -41,8 +41,8 @@ pub record Digit (x : ℕ) : Type 0 where
   pub high : x ≤ 57
 
 -- the test says so
-pub is_digit_lem : (x : ℕ) → is_digit x ≡ true → Digit x
-is_digit_lem x e =
+pub digit-tested : (x : ℕ) → is_digit x ≡ true → Digit x
+digit-tested x e =
     cases (leb 48 x)
     (λ a. record { low = leb-true 48 x a; high = leb-true x 57 (rw a at e) })
     (λ a. absurd (false≢true (rw a at e)))
@@ -106,7 +106,7 @@ number_read (suc n) b fits end = read-digits (suc n) (suc n) b (le_refl (suc n))
 -- and so is one with a word behind it
 pub number_then-read : (w b : List ℕ) (n : ℕ) → n ≤ highest → NoDigit (w ++ b) → number_then w (decimal n ++ (w ++ b)) ≡ some (n, b)
 unfolding number_then bind
-number_then-read w b n fits end = rw (number_read n (w ++ b) fits end, after_read_lem w b)
+number_then-read w b n fits end = rw (number_read n (w ++ b) fits end, after-read w b)
 
 -- ---- and nowhere else
 
@@ -125,7 +125,7 @@ from-exact v (x ∷ b) b' n pos fits e =
     (λ t.
     cases (leb next highest)
     (λ h.
-    let d = is_digit_lem x t in
+    let d = digit-tested x t in
     let more = rest (omega arith) (leb-true next highest h) (rw (t, h) at e) in
     (sym (append_assoc (decimal v) (x ∷ []) b) ∙ ap (λ (l : List ℕ). l ++ b) (sym (decimal-more v x pos d)) ∙ more.0, more.1))
     (λ h. absurd (none-ne-some (n, b') (rw (t, h) at e))))
@@ -145,7 +145,7 @@ number-exact (x ∷ b) b' n e =
     (λ f.
     cases (is_digit x)
     (λ t.
-    let d = is_digit_lem x t in
+    let d = digit-tested x t in
     let pos = eqb-false x 48 f in
     let more = from-exact (digit x) b b' n (omega arith) (omega arith) (rw (f, t) at e) in
     let same : 48 + digit x ≡ x = omega arith in
