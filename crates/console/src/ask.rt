@@ -16,7 +16,7 @@ use lines::{Line, Question, Reading};
 use tree::{Outcome, Refusal, Traced};
 
 // What a question line gives: the question, and the position after the line.
-#[derive(Drop)]
+#[derive(Clone, Copy)]
 pub(crate) enum Asks {
     Question(Question, usize),
     Illegible,

@@ -24,7 +24,7 @@ pub use size::{MOST_BYTES, MOST_ROOM, room};
 use tree::{Outcome, Refusal};
 
 // What a run gives: how many bytes at the start of the buffer are the text; or how many bytes the buffer must have, which is then as it was.
-#[derive(Drop)]
+#[derive(Clone, Copy)]
 pub enum Written {
     Text(usize),
     Short(usize),

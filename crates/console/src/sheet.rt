@@ -7,14 +7,14 @@ ghost use Rattle.console.specs.Gives.{EntryGives, EntriesGive};
 use lines::{Line, Reading};
 
 // What a part line gives: the entry, and the position after the line.
-#[derive(Drop)]
+#[derive(Clone, Copy)]
 pub(crate) enum Entry {
     Parent(u16, usize),
     Illegible,
 }
 
 // What the part lines give: the position after them; or the number of the line at which they break off.
-#[derive(Drop)]
+#[derive(Clone, Copy)]
 pub(crate) enum Entries {
     Whole(usize),
     Illegible(usize),

@@ -17,14 +17,14 @@ ghost use Rattle.tree.specs.Nodes.{Pair};
 ghost use Rattle.lifting.specs.Stored.{row, Raises};
 
 // Two parts, as a row of a trail has them.
-#[derive(Drop)]
+#[derive(Clone, Copy)]
 pub struct Sides {
     pub x: usize,
     pub y: usize,
 }
 
 // A pair, the deeper part first, and by how many levels it is deeper.
-#[derive(Drop)]
+#[derive(Clone, Copy)]
 pub struct Gap {
     pub deep: usize,
     pub other: usize,
@@ -32,7 +32,7 @@ pub struct Gap {
 }
 
 // Where a pair was raised to, and the count of the lifts until there.
-#[derive(Drop)]
+#[derive(Clone, Copy)]
 pub struct Raised {
     pub x: usize,
     pub y: usize,

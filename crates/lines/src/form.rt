@@ -8,14 +8,14 @@ ghost use Rattle.lines.specs.Gives.{two_of, ListedGives, ReadGives};
 use text::{Found, Number};
 
 // A question: of a pair, its two numbers; of many, how many numbers stand beside it.
-#[derive(Drop)]
+#[derive(Clone, Copy)]
 pub enum Question {
     Pair(u16, u16),
     Many(usize),
 }
 
 // "A line is a machine, part, pair or many form": a machine's count, a part with its entry, a question.
-#[derive(Drop)]
+#[derive(Clone, Copy)]
 pub enum Line {
     Machine(u16),
     Part(u16, u16),
@@ -23,21 +23,21 @@ pub enum Line {
 }
 
 // What the bytes of a line say.
-#[derive(Drop)]
+#[derive(Clone, Copy)]
 pub enum Reading {
     Legible(Line),
     Illegible,
 }
 
 // Two numbers that stand between words.
-#[derive(Drop)]
+#[derive(Clone, Copy)]
 pub(crate) enum Two {
     Numbers(u16, u16),
     Illegible,
 }
 
 // The numbers of a many line: how many, and where they end.
-#[derive(Drop)]
+#[derive(Clone, Copy)]
 pub(crate) enum Numbers {
     Listed(usize, usize),
     Illegible,

@@ -10,7 +10,7 @@ use tree::Refusal;
 const MOST: u16 = 512;
 
 // What the machine line gives: how many parts, and the position after it; or the refusal that ends the run.
-#[derive(Drop)]
+#[derive(Clone, Copy)]
 pub enum Start {
     Parts(usize, usize),
     Refused(Refusal),

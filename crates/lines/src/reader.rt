@@ -10,7 +10,7 @@ use crate::form;
 use crate::form::Reading;
 
 // What is taken at a position: what the line there says, and the position after it.
-#[derive(Drop)]
+#[derive(Clone, Copy)]
 pub struct Next {
     pub line: Reading,
     pub end: usize,

@@ -8,7 +8,7 @@ use crate::tally::below;
 use crate::tests::next_root;
 
 // Two cells: the one at a holds x, and the one at b holds y.
-#[derive(Drop)]
+#[derive(Clone, Copy)]
 pub struct Cells {
     pub a: usize,
     pub x: usize,

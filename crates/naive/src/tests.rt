@@ -7,7 +7,7 @@ use crate::fit;
 use crate::number::plus;
 
 // What a call is to answer, or answered: the number and the place of its refusal, or 0 and 0, and its count of lifts.
-#[derive(Drop)]
+#[derive(Clone, Copy)]
 pub struct Said {
     pub number: usize,
     pub place: usize,

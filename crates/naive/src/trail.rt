@@ -5,7 +5,7 @@ use crate::climb::{level, up};
 use crate::number::{log, minus, ones, plus, power, times};
 
 // Where the two sides stand after a number of lifts.
-#[derive(Drop)]
+#[derive(Clone, Copy)]
 pub struct Sides {
     pub x: usize,
     pub y: usize,

@@ -32,7 +32,7 @@ module _ {promises : Out 8 list.ps list.r} (run : Run promises) where
   abbrev pub asked : Asked
   asked =
       let a = run.passed in
-      asked_by a.0 a.1.0 a.1.1.0 a.1.1.1.0 a.1.1.1.1.0 a.1.1.1.1.1.0 a.1.1.1.1.1.1.0 a.1.1.1.1.1.1.1.0
+      asked_by a.0.now a.1.0.now a.1.1.0.now a.1.1.1.0.now a.1.1.1.1.0.now a.1.1.1.1.1.0.now a.1.1.1.1.1.1.0.now a.1.1.1.1.1.1.1.0.now
 
   -- the answer's cells afterwards
   abbrev pub answers : List ℕ
@@ -66,7 +66,7 @@ module _ (run : TrailRun) where
   abbrev pub traced : Asked
   traced =
       let a = run.passed in
-      asked_by a.0 a.1.0 a.1.1.0 a.1.1.1.0 a.1.1.1.1.0 a.1.1.1.1.1.0 a.1.1.1.1.1.1.0 a.1.1.1.1.1.1.1.0
+      asked_by a.0.now a.1.0.now a.1.1.0.now a.1.1.1.0.now a.1.1.1.1.0.now a.1.1.1.1.1.0.now a.1.1.1.1.1.1.0.now a.1.1.1.1.1.1.1.0.now
 
   -- the trail's cells before and afterwards
   abbrev pub rows_before : List ℕ

@@ -7,7 +7,7 @@ use mathlib.Core.Path.{◌≡◌, refl, sym, ap, ◌∙◌, subst}
 use mathlib.Core.List.{List, [], ◌∷◌}
 use borrow.Fn.Kinds.{Out, Dens, ended_of}
 use contract.Lifetimes.{Lfts}
-use denote.Ref.{Bor}
+use denote.Ref.{Bor, MutBor}
 use denote.Triple.Clauses.{AtExit}
 use lib.Dec.{lit<}
 use lib.ListN.{length, get_or, replicate, length-replicate}
@@ -50,6 +50,10 @@ use Rattle.routes.proofs.Demand3.{Runs}
 abbrev ref : List ℕ → Bor (List ℕ)
 ref l = record { ref_ptr = (0, 0); now = l }
 
+-- the same of cells that the call may write
+abbrev mut_ref : List ℕ → MutBor (List ℕ)
+mut_ref l = record { ref_ptr = (0, 0); ghost_name = 0; now = l }
+
 -- so many cells that hold 0
 abbrev zeros : ℕ → List ℕ
 zeros k = replicate {A = ℕ} k 0
@@ -81,17 +85,17 @@ module _ (s : List ℕ) where
 
   -- references to the sheet, its tables, clear work and a question, with those after them: what a call is passed, and what it leaves
   abbrev Refs : Type 0 → Type 0
-  Refs A = Bor (List ℕ) × (Bor (List ℕ) × (Bor (List ℕ) × (Bor (List ℕ) × (Bor (List ℕ) × (Bor (List ℕ) × (Bor (List ℕ) × A))))))
+  Refs A = Bor (List ℕ) × (Bor (List ℕ) × (Bor (List ℕ) × (Bor (List ℕ) × (Bor (List ℕ) × (MutBor (List ℕ) × (Bor (List ℕ) × A))))))
 
   abbrev refs : {A : Type 0} → List ℕ → A → Refs A
-  refs question more = (ref s, (ref (label_table s), (ref (tour_table s), (ref (lift_table s), (ref (preorder s), (ref clear, (ref question, more)))))))
+  refs question more = (ref s, (ref (label_table s), (ref (tour_table s), (ref (lift_table s), (ref (preorder s), (mut_ref clear, (ref question, more)))))))
 
   -- of pairs and of a list
   abbrev passed : List ℕ → ℕ → Dens lifetimes list.ps
-  passed question cells = refs question (ref (zeros cells), tt)
+  passed question cells = refs question (mut_ref (zeros cells), tt)
 
   abbrev left : List ℕ → List ℕ → AtExit (ended_of 8 list.ps list.r) lifetimes
-  left question answers = refs question (ref answers, tt)
+  left question answers = refs question (mut_ref answers, tt)
 
   -- a run of such a call that is accepted, where what it promises holds
   abbrev run_of : {promises : Out 8 list.ps list.r} (question : List ℕ) (cells : ℕ) (answers : List ℕ)
@@ -146,9 +150,9 @@ module _ (s : List ℕ) (accepts : tests.Accepted s) where
   abbrev trail-run : (x y : ℕ) → Some s (x ∷ y ∷ []) → TrailRun
   trail-run x y some = record {
     lifetimes = ([], lifetimes);
-    passed = refs s (x ∷ y ∷ []) (ref (zeros 1), (ref (zeros trail_cells), tt));
+    passed = refs s (x ∷ y ∷ []) (mut_ref (zeros 1), (mut_ref (zeros trail_cells), tt));
     result = traced.Lifts (lifts (own s) x y);
-    left = refs s (x ∷ y ∷ []) (ref (by_lifts (own s) x y ∷ []), (ref (trail_buffer (trail (own s) x y)), tt));
+    left = refs s (x ∷ y ∷ []) (mut_ref (by_lifts (own s) x y ∷ []), (mut_ref (trail_buffer (trail (own s) x y)), tt));
     kept = trail-kept x y some;
   }
 

@@ -15,7 +15,7 @@ ghost use Rattle.routes.specs.Answers.{asked_by, PairsGive, TrailGives, ListGive
 use tree::{Outcome, Traced};
 
 // The three routes.
-#[derive(Drop)]
+#[derive(Clone, Copy)]
 pub enum Route {
     Labels,
     Tour,

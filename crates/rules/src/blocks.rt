@@ -11,7 +11,7 @@ ghost use Rattle.tree.specs.Nodes.{Small};
 ghost use Rattle.rules.specs.Tour.{Covers, Below, Back};
 
 // The positions that the cells of two blocks give.
-#[derive(Drop)]
+#[derive(Clone, Copy)]
 pub(crate) struct Covered {
     pub left: usize,
     pub right: usize,

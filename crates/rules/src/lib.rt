@@ -65,7 +65,7 @@ pub fn branch(parents: &[u16], label: &[u16], tour: &[u16], c: usize, x: usize) 
 }
 
 // Two of a list's parts.
-#[derive(Drop)]
+#[derive(Clone, Copy)]
 pub struct FirstLast {
     pub first: usize,
     pub last: usize,

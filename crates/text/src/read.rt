@@ -5,14 +5,14 @@ ghost use Rattle.text.specs.Fields.{after, number_from, number, number_then, hig
 ghost use Rattle.text.specs.Found.{Finds, FindsNumber, LineEnd};
 
 // Where a word that was looked for ends.
-#[derive(Drop)]
+#[derive(Clone, Copy)]
 pub enum Found {
     At(usize),
     Nothing,
 }
 
 // A number that was looked for, and where it ends.
-#[derive(Drop)]
+#[derive(Clone, Copy)]
 pub enum Number {
     Value(u16, usize),
     Nothing,

@@ -7,7 +7,7 @@ ghost use Rattle.tree.specs.Verdict.{number_of, place_of};
 
 // Why a call is refused: a case for each row of document 01's table of numbers, in its order. A case that can arise at
 // more than one place holds the place, which is as wide as a length.
-#[derive(Drop)]
+#[derive(Clone, Copy)]
 pub enum Refusal {
     // 1 "bare"
     Empty,
@@ -36,28 +36,28 @@ pub enum Refusal {
 }
 
 // What a call answers that gives no number of its own.
-#[derive(Drop)]
+#[derive(Clone, Copy)]
 pub enum Outcome {
     Accepted,
     Refused(Refusal),
 }
 
 // What a call answers that traces a pair: the count of its lifts.
-#[derive(Drop)]
+#[derive(Clone, Copy)]
 pub enum Traced {
     Lifts(usize),
     Refused(Refusal),
 }
 
 // What a call answers that locates the subtree of a part: the cell of the order table at which it begins, and the count of its cells.
-#[derive(Drop)]
+#[derive(Clone, Copy)]
 pub enum Located {
     At(usize, usize),
     Refused(Refusal),
 }
 
 // A refusal as the operator sees it.
-#[derive(Drop)]
+#[derive(Clone, Copy)]
 pub struct Numbered {
     pub number: u16,
     pub place: usize,

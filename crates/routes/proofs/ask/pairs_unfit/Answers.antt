@@ -7,8 +7,7 @@ use mathlib.Core.Path.{◌≡◌, sym, ◌∙◌}
 use borrow.Author.Tests.{eq-eqb, ne_eqb}
 use Rattle.tree.specs.Buffers.{answer_width, answer_cells}
 use Rattle.tree.proofs.Fits.{unfit-here, unfit-later, unfit-last}
-use Rattle.routes.proofs.ask.pairs_unfit.Statement.{statement}
-use Rattle.routes.proofs.ask.pairs_unfit.Tie as tie
+use Rattle.routes.proofs.ask.pairs_unfit.Goals as goal
 
 -- three cells for each pair leave no rest, and are as many threes as there are pairs; and the other way round
 threes : (question answer : ℕ) → answer ≡ answer_cells question → (answer % answer_width ≡ 0) × (answer / answer_width ≡ question / 2)
@@ -17,19 +16,16 @@ threes question answer e = (omega arith, omega arith)
 for-each : (question answer : ℕ) → answer % answer_width ≡ 0 → answer / answer_width ≡ question / 2 → answer ≡ answer_cells question
 for-each question answer rest many = omega arith
 
-returns : tie.Need-returns
-returns c = sym (unfit-here _ _ (ne_eqb _ _ c.if1.true))
+pub returns-then-question-ne0 : goal.returns-then-question-ne0
+returns-then-question-ne0 c = sym (unfit-here _ _ (ne_eqb _ _ c.if-question-ne0.true))
 
-returns-2 : tie.Need-returns-2
-returns-2 c = sym (unfit-later _ _ (eq-eqb _ _ c.before.if1.false) ∙ unfit-here _ _ (ne_eqb _ _ (λ e. c.if2.true (threes _ _ e).0)))
+pub returns-then-answer-ne0 : goal.returns-then-answer-ne0
+returns-then-answer-ne0 c = sym (unfit-later _ _ (eq-eqb _ _ c.if-question-ne0.false) ∙ unfit-here _ _ (ne_eqb _ _ (λ e. c.if-answer-ne0.true (threes _ _ e).0)))
 
-returns-3 : tie.Need-returns-3
-returns-3 c =
-    sym (unfit-later _ _ (eq-eqb _ _ c.before.before.if1.false) ∙ unfit-here _ _ (ne_eqb _ _ (λ e. c.if3.true (threes _ _ e).1)))
+pub returns-then-answer-question : goal.returns-then-answer-question
+returns-then-answer-question c =
+    sym (unfit-later _ _ (eq-eqb _ _ c.if-question-ne0.false) ∙ unfit-here _ _ (ne_eqb _ _ (λ e. c.if-answer-question.true (threes _ _ e).1)))
 
-returns-4 : tie.Need-returns-4
-returns-4 c =
-    sym (unfit-later _ _ (eq-eqb _ _ c.before.before.if1.false) ∙ unfit-last _ (eq-eqb _ _ (for-each _ _ c.before.if2.false c.if3.false)))
-
-pub pairs-unfit-spec : {M : Type 1} → statement M
-pairs-unfit-spec = tie.close (tie.spec returns returns-2 returns-3 returns-4)
+pub returns : goal.returns
+returns c =
+    sym (unfit-later _ _ (eq-eqb _ _ c.if-question-ne0.false) ∙ unfit-last _ (eq-eqb _ _ (for-each _ _ c.if-answer-ne0.false c.if-answer-question.false)))

@@ -1,0 +1,31 @@
+-- `routes::answer::pair` meets its contract: the carrier that the route gives carries both parts, so it has a branch towards each.
+-- Assumes nothing.
+use native.Mathlib.Omega.{arith}
+use borrow.Author.Rules.{rules}
+use lib.ListN.{length-set}
+use Rattle.tree.specs.Tree.{Ancestor}
+use Rattle.tree.specs.Tables.{own}
+use Rattle.routes.specs.Rules.{rule_of}
+use Rattle.routes.proofs.Giving.{rule-carries}
+use Rattle.routes.proofs.Storing.{stored-by}
+use Rattle.routes.proofs.answer.pair.Goals as goal
+
+-- `carries`: the carrier carries x and y
+pub branch-left-requires : goal.branch-left-requires
+branch-left-requires c =
+    let carries : (let a = c.args in
+    Ancestor a.parents.now c.carrier-c.result a.x × Ancestor a.parents.now c.carrier-c.result a.y) = (rule-carries c.args.route c.requires.0 c.carrier-c.ensures.is) in
+    let p = c.requires in (p.0.small, p.0.left, carries.0, p.2, p.3)
+
+-- `carries`: the carrier carries x and y
+pub branch-right-requires : goal.branch-right-requires
+branch-right-requires c =
+    let carries : (let a = c.args in
+    Ancestor a.parents.now c.carrier-c.result a.x × Ancestor a.parents.now c.carrier-c.result a.y) = (rule-carries c.args.route c.requires.0 c.carrier-c.ensures.is) in
+    let p = c.requires in (p.0.small, p.0.right, carries.1, p.2, p.3)
+
+pub returns : goal.returns
+returns c =
+    let a = c.args in
+    stored-by (rule_of a.route) (own a.parents.now) a.x a.y a.answer.now a.at _ _ _ c.carrier-c.ensures.is c.branch-left.ensures.is
+    c.branch-right.ensures.is

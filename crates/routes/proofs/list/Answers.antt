@@ -1,0 +1,29 @@
+-- `routes::list` meets its contract: the tests decide, and where they accept, the list's carrier is stored.
+-- Assumes nothing.
+use borrow.Author.Rules.{rules}
+use mathlib.Core.Path.{sym, ◌∙◌}
+use Rattle.tree.proofs.Fits.{list-fit}
+use Rattle.routes.specs.Answers.{Asked, asked_by}
+use Rattle.routes.proofs.Asking.{admitted-as, admitted-answerable}
+use Rattle.routes.proofs.Giving.{list-refused, list-answered}
+use Rattle.routes.proofs.list.Goals as goal
+
+-- `asked`: what is lent
+pub returns-in_default : goal.returns-in_default
+returns-in_default c =
+    let asked : (Asked) = (let a = c.args in asked_by a.parents.now a.label.now a.tour.now a.lift.now a.order.now a.work.now a.question.now a.answer.now) in
+    list-refused asked (admitted-as asked c.list_unfit-unfit.ensures c.admit-r.ensures) c.in_default.is
+
+-- `asked`: what is lent
+pub list-requires : goal.list-requires
+list-requires c =
+    let asked : (Asked) = (let a = c.args in asked_by a.parents.now a.label.now a.tour.now a.lift.now a.order.now a.work.now a.question.now a.answer.now) in
+    let ready = admitted-answerable asked _ c.admit-r.ensures c.in-Accepted.is in
+    (ready.listed, list-fit _ (sym c.list_unfit-unfit.ensures ∙ ready.owned.fits), ready.owned.label, ready.owned.tour)
+
+-- `asked`: what is lent
+pub returns : goal.returns
+returns c =
+    let asked : (Asked) = (let a = c.args in asked_by a.parents.now a.label.now a.tour.now a.lift.now a.order.now a.work.now a.question.now a.answer.now) in
+    list-answered asked (admitted-as asked c.list_unfit-unfit.ensures c.admit-r.ensures) c.in-Accepted.is
+    c.list.ensures

@@ -1,0 +1,31 @@
+-- `routes::pairs` meets its contract: the tests decide, and where they accept, each pair's answer is stored.
+-- Assumes nothing.
+use borrow.Author.Rules.{rules}
+use mathlib.Core.Path.{sym, ◌∙◌}
+use Rattle.tree.proofs.Fits.{pairs-fit}
+use Rattle.routes.specs.Answers.{Asked, asked_by}
+use Rattle.routes.proofs.Asking.{admitted-as, admitted-answerable}
+use Rattle.routes.proofs.Giving.{pairs-refused, pairs-answered}
+use lib.ListN.{length}
+use Rattle.routes.proofs.pairs.Goals as goal
+
+-- `asked`: what is lent
+pub returns-in_default : goal.returns-in_default
+returns-in_default c =
+    let asked : (Asked) = (let a = c.args in asked_by a.parents.now a.label.now a.tour.now a.lift.now a.order.now a.work.now a.question.now a.answer.now) in
+    pairs-refused c.args.route asked (admitted-as asked c.pairs_unfit-unfit.ensures c.admit-r.ensures) c.in_default.is
+
+-- `asked`: what is lent
+pub pairs-requires : goal.pairs-requires
+pairs-requires c =
+    let asked : (Asked) = (let a = c.args in asked_by a.parents.now a.label.now a.tour.now a.lift.now a.order.now a.work.now a.question.now a.answer.now) in
+    let ready = admitted-answerable asked _ c.admit-r.ensures c.in-Accepted.is in
+    let (_, cells) = pairs-fit (length c.args.question.now) (length c.args.answer.now) (sym c.pairs_unfit-unfit.ensures ∙ ready.owned.fits) in
+    (ready.listed, cells, ready.owned.label, ready.owned.tour, ready.owned.lift)
+
+-- `asked`: what is lent
+pub returns : goal.returns
+returns c =
+    let asked : (Asked) = (let a = c.args in asked_by a.parents.now a.label.now a.tour.now a.lift.now a.order.now a.work.now a.question.now a.answer.now) in
+    pairs-answered c.args.route asked (admitted-as asked c.pairs_unfit-unfit.ensures c.admit-r.ensures)
+    c.in-Accepted.is c.pairs.ensures

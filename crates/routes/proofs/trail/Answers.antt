@@ -1,0 +1,36 @@
+-- `routes::trail` meets its contract: the tests decide, and where they accept, the trail of the question's pair is stored.
+-- Assumes nothing.
+use native.Mathlib.Omega.{arith}
+use borrow.Author.Rules.{rules}
+use mathlib.Core.Path.{sym, ◌∙◌}
+use Rattle.tree.proofs.Fits.{trail_fit_lem}
+use Rattle.tree.proofs.Pairs.{question-pair}
+use Rattle.routes.specs.Answers.{Asked, asked_by}
+use Rattle.routes.proofs.Asking.{admitted-as, admitted-answerable}
+use Rattle.routes.proofs.Giving.{trail-refused, trail-answered}
+use lib.ListN.{length}
+use Rattle.routes.proofs.trail.Goals as goal
+
+-- `asked`: what is lent
+pub trail-requires : goal.trail-requires
+trail-requires c =
+    let asked : (Asked) = (let a = c.args in asked_by a.parents.now a.label.now a.tour.now a.lift.now a.order.now a.work.now a.question.now a.answer.now) in
+    let ready = admitted-answerable asked _ c.admit-r.ensures c.in-Accepted.is in
+    let (two, one, whole) = trail_fit_lem (length asked.question) (length asked.answer) (length c.args.rows.now) (sym c.trail_unfit-unfit.ensures ∙ ready.owned.fits) in
+    (question-pair ready.listed 0 (omega arith), two, one, whole, ready.owned.label, ready.owned.lift)
+
+-- `asked`: what is lent
+pub returns-in-Accepted : goal.returns-in-Accepted
+returns-in-Accepted c =
+    let asked : (Asked) = (let a = c.args in asked_by a.parents.now a.label.now a.tour.now a.lift.now a.order.now a.work.now a.question.now a.answer.now) in
+    let ready = admitted-answerable asked _ c.admit-r.ensures c.in-Accepted.is in
+    let (two, _, _) = trail_fit_lem (length asked.question) (length asked.answer) (length c.args.rows.now) (sym c.trail_unfit-unfit.ensures ∙ ready.owned.fits) in
+    let done = c.trail.ensures in
+    trail-answered asked c.args.rows.now (admitted-as asked c.trail_unfit-unfit.ensures c.admit-r.ensures) c.in-Accepted.is
+    done.0 done.1 done.2 two
+
+-- `asked`: what is lent
+pub returns-in-Refused : goal.returns-in-Refused
+returns-in-Refused c =
+    let asked : (Asked) = (let a = c.args in asked_by a.parents.now a.label.now a.tour.now a.lift.now a.order.now a.work.now a.question.now a.answer.now) in
+    trail-refused asked c.args.rows.now (admitted-as asked c.trail_unfit-unfit.ensures c.admit-r.ensures) c.in-Refused.is
