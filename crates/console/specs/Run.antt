@@ -1,7 +1,7 @@
 -- The run of the program: what it prints, from the input's bytes alone. "First the machine line, then n part lines in order, then questions."
 -- Assumes nothing.
 use Rattle.std.specs.Prelude.{ℕ, zero, suc, ◌+◌, cond, List, [], ◌∷◌, ◌++◌, leb, length}
-use Rattle.std.proofs.Math.Option.{Option·elim, bind}
+use Rattle.std.proofs.Math.Option.{Option-elim, bind}
 use Rattle.tree.specs.declared.Refusal.TheVariants.{MalformedLine}
 use Rattle.tree.specs.Tests.{verdict, sheet_tests, question_tests}
 use Rattle.tree.specs.Lca.{lca}
@@ -43,7 +43,7 @@ unfoldable pub questions : List ℕ → ℕ → Lines → List ℕ
 questions s number (tail b) = leftover number b
 questions s number (line b rest) =
     let later = questions s (suc number) rest in
-    Option·elim (bind (read b) query) (illegible number) λ q. answer s q ++ later
+    Option-elim (bind (read b) query) (illegible number) λ q. answer s q ++ later
 
 -- ---- the sheet
 
@@ -64,7 +64,7 @@ part_line v = v + 2
 -- "n part lines in order": those of k parts from part v on
 unfoldable pub parts : ℕ → ℕ → Lines → Sheet
 parts zero v ls = sheet [] ls
-parts (suc k) v ls = Option·elim (next_as (entry v) ls) (broken (part_line v)) λ found. first found.0 (parts k (suc v) found.1)
+parts (suc k) v ls = Option-elim (next_as (entry v) ls) (broken (part_line v)) λ found. first found.0 (parts k (suc v) found.1)
 
 -- "the sheet is tested after its last part line, before any question is read", and a refused sheet ends the run
 unfoldable pub sheet_run : Sheet → List ℕ

@@ -1,7 +1,6 @@
 -- `console::machine` meets its contract: the machine line is printed, and the sheet is read into buffers of its exact lengths.
 -- Assumes nothing.
-use mathlib.Core.Path.{sym, ◌∙◌}
-use borrow.Author.Rules.{rules}
+use Rattle.std.proofs.Common.{◌≡◌, ℕ, ◌*◌, ◌≤◌, List, length, take, sym, ◌∙◌, arith}
 use lib.Seq.{length-take-le}
 use Rattle.text.proofs.Putting.{room-first, room-then, puts_then}
 use Rattle.console.specs.Print.{machine_line}
@@ -9,19 +8,32 @@ use Rattle.console.proofs.Testing.{sized_of}
 use Rattle.console.proofs.machine.Goals as goal
 
 pub machine-put-requires : goal.machine-put-requires
-machine-put-requires c = room-first _ (machine_line c.args.n) _ c.requires.1
+machine-put-requires c = room-first _ (machine_line c.args.n) _ c.requires.room
+
+-- a buffer's first cells are as many as are lent of it
+lent : (xs : List ℕ) (k most : ℕ) → most ≡ length xs → k ≤ most → k ≡ length (take k xs)
+lent xs k most long within = sym (length-take-le k xs (omega arith))
 
 pub read_sheet-requires : goal.read_sheet-requires
 read_sheet-requires c =
-    let long = slice-aggregate-read-sheet (goal.at.read_sheet-requires c).After-parents-1 in
-    let tour-long = sym BAD_parents.before.before.tour_length.ensures.0 ∙ slice-aggregate-read-sheet-3 (goal.at.read_sheet-requires c).After-tour-1 in
-    let lift-long = sym BAD_parents.before.lift_length.ensures.0 ∙ slice-aggregate-read-sheet-4 (goal.at.read_sheet-requires c).After-lift-1 in
-    let (some, few, there) = c.requires.0 in
-    let sized =
-    sized_of _ some few long (slice-aggregate-read-sheet-2 (goal.at.read_sheet-requires c).After-label-1) tour-long lift-long (slice-aggregate-read-sheet-5 (goal.at.read_sheet-requires c).After-order-1) (slice-aggregate-read-sheet-6 (goal.at.read_sheet-requires c).After-work-1) in
-    (there, (sized, rw (← long) (room-then (machine_line c.args.n) _ c.requires.1 c.machine-put.ensures)))
+    let n = c.args.n in
+    let (some, few, there) = c.requires.n_nonzero in
+    let parents = lent c.parents-parents.result n 512 c.parents-parents.ensures few in
+    let label = lent c.label-label.result (6 * n) 3072 c.label-label.ensures (omega arith) in
+    let tour =
+    sym c.tour_cells-tour_cells.ensures.0 ∙ lent c.tour-tour.result c.tour_cells-tour_cells.result 11765 c.tour-tour.ensures c.tour_cells-tour_cells.ensures.1 in
+    let lift =
+    sym c.lift_cells-lift_cells.ensures.0 ∙ lent c.lift-lift.result c.lift_cells-lift_cells.result 5120 c.lift-lift.ensures c.lift_cells-lift_cells.ensures.1 in
+    let order = lent c.order-order.result n 512 c.order-order.ensures few in
+    let work = lent c.work-work.result (4 * n) 2048 c.work-work.ensures (omega arith) in
+    record {
+      at_in_bounds = there;
+      sized = sized_of _ some few parents label tour lift order work;
+      room = rw (← parents) (room-then (machine_line n) _ c.requires.room c.machine-put.ensures);
+    }
 
 pub returns : goal.returns
 returns c =
-    puts_then (machine_line c.args.n) _ c.requires.1 c.machine-put.ensures
-    (rw (← slice-aggregate-read-sheet (goal.at.returns c).After-parents-1) at c.read_sheet.ensures)
+    let few = c.requires.n_nonzero.1 in
+    let parents = lent c.parents-parents.result c.args.n 512 c.parents-parents.ensures few in
+    puts_then (machine_line c.args.n) _ c.requires.room c.machine-put.ensures (rw (← parents) at c.read_sheet.ensures)

@@ -8,15 +8,17 @@ use Rattle.console.proofs.read_sheet.Goals as goal
 pub test_sheet-requires : goal.test_sheet-requires
 test_sheet-requires c =
     let end = c.in-Whole.is in
-    let (_, (sized, room)) = c.requires in
     let all = c.part_lines.ensures in
-    (all.within _ end, (sized-as sized c.parents-1.given, rw (sheet-read all end c.parents-1.given) room))
+    record {
+      at_in_bounds = all.within _ end;
+      sized = sized-as c.requires.sized c.parents-1.given;
+      room = rw (sheet-read all end c.parents-1.given) c.requires.room;
+    }
 
 pub refusal-requires : goal.refusal-requires
 unfolding sheet_run
 refusal-requires c =
-    let (_, (_, room)) = c.requires in
-    rw (← sheet-read c.part_lines.ensures c.in-Illegible.is c.parents-1.given) at room
+    rw (← sheet-read c.part_lines.ensures c.in-Illegible.is c.parents-1.given) at c.requires.room
 
 pub returns-in-Whole : goal.returns-in-Whole
 returns-in-Whole c =

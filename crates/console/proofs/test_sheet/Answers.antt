@@ -11,25 +11,29 @@ use Rattle.console.proofs.test_sheet.Goals as goal
 pub outcome-requires : goal.outcome-requires
 outcome-requires c =
     let rest : (Lines) = (lines (drop c.args.at c.args.input.now)) in
-    rw (sheet-refused c.requires.1.0 c.build-r.ensures rest c.in_default.is) c.requires.1.1
+    rw (sheet-refused c.requires.sized c.build-r.ensures rest c.in_default.is) c.requires.room
 
 -- `rest`: the lines of the questions
 pub returns-in_default : goal.returns-in_default
 returns-in_default c =
     let rest : (Lines) = (lines (drop c.args.at c.args.input.now)) in
-    rw (sheet-refused c.requires.1.0 c.build-r.ensures rest c.in_default.is) at c.outcome.ensures
+    rw (sheet-refused c.requires.sized c.build-r.ensures rest c.in_default.is) at c.outcome.ensures
 
 -- `rest`: the lines of the questions
 pub questions-requires : goal.questions-requires
 questions-requires c =
     let rest : (Lines) = (lines (drop c.args.at c.args.input.now)) in
-    let (there, (sized, room)) = c.requires in
+    let sized = c.requires.sized in
     let g = c.build-r.ensures in
     let accepted = c.in-Accepted.is in
-    ((there, omega (arith, sized.small)), (sheet-stands sized g accepted, rw (sheet-accepted sized g accepted rest) room))
+    record {
+      at_in_bounds = (c.requires.at_in_bounds, omega (arith, sized.small));
+      stands = sheet-stands sized g accepted;
+      room = rw (sheet-accepted sized g accepted rest) c.requires.room;
+    }
 
 -- `rest`: the lines of the questions
 pub returns : goal.returns
 returns c =
     let rest : (Lines) = (lines (drop c.args.at c.args.input.now)) in
-    rw (sheet-accepted c.requires.1.0 c.build-r.ensures c.in-Accepted.is rest) at c.questions.ensures
+    rw (sheet-accepted c.requires.sized c.build-r.ensures c.in-Accepted.is rest) at c.questions.ensures

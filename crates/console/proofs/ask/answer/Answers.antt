@@ -7,11 +7,11 @@ use Rattle.console.proofs.ask.answer.Goals as goal
 
 pub pair-requires : goal.pair-requires
 pair-requires c =
-    (c.requires.1.0, rw c.in-Pair.is at c.requires.1.1)
+    record { stands = c.requires.stands; room = rw c.in-Pair.is at c.requires.room }
 
 pub many-requires : goal.many-requires
 many-requires c =
-    (c.requires.1.0, rw c.in-Many.is at c.requires.1.1)
+    record { stands = c.requires.stands; room = rw c.in-Many.is at c.requires.room }
 
 pub returns-in-Pair : goal.returns-in-Pair
 returns-in-Pair c =

@@ -15,21 +15,23 @@ use Rattle.console.proofs.ask.pair.Goals as goal
 -- `refused`: it is the line of the refusal, where the pair is refused
 pub outcome-requires : goal.outcome-requires
 outcome-requires c =
-    let line : (List ℕ) = (let s = (start (PLACE After-pairs_by_labels)).args in answer s.parents.now (pair s.x s.y)) in
-    let refused : (given (verdict_of c.pairs_by_labels-r.result) [] ≡ line) = (pair-refused c.requires.0 c.pairs_by_labels-r.ensures refl c.in_default.is) in
-    rw refused (start (goal.at.outcome-requires c).After-pairs_by_labels-r).requires.1
+    let line : (List ℕ) = (let s = c.args in answer s.parents.now (pair s.x s.y)) in
+    let refused : (given (verdict_of c.pairs_by_labels-r.result) [] ≡ line) = (pair-refused c.requires.stands c.pairs_by_labels-r.ensures refl c.in_default.is) in
+    rw refused c.requires.room
 
 -- `line`: what is to be printed
 -- `refused`: it is the line of the refusal, where the pair is refused
 pub returns-in_default : goal.returns-in_default
 returns-in_default c =
-    let line : (List ℕ) = (let s = (start (PLACE After-pairs_by_labels)).args in answer s.parents.now (pair s.x s.y)) in
-    let refused : (given (verdict_of c.pairs_by_labels-r.result) [] ≡ line) = (pair-refused c.requires.0 c.pairs_by_labels-r.ensures refl c.in_default.is) in
+    let line : (List ℕ) = (let s = c.args in answer s.parents.now (pair s.x s.y)) in
+    let refused : (given (verdict_of c.pairs_by_labels-r.result) [] ≡ line) = (pair-refused c.requires.stands c.pairs_by_labels-r.ensures refl c.in_default.is) in
     rw refused at c.outcome.ensures
 
 pub lifted-requires : goal.lifted-requires
 lifted-requires c =
-    let stands = c.requires.0 in (
-      pair_found stands c.pairs_by_labels-r.ensures refl c.in-Accepted.is,
-      (record { accepts = stands.accepts; tables = stands.tables; room = c.pairs_by_labels-r.auto.work ∙ stands.room }, c.requires.1),
-    )
+    let stands = c.requires.stands in
+    record {
+      found = pair_found stands c.pairs_by_labels-r.ensures refl c.in-Accepted.is;
+      stands = record { accepts = stands.accepts; tables = stands.tables; room = c.pairs_by_labels-r.auto.work ∙ stands.room };
+      room = c.requires.room;
+    }

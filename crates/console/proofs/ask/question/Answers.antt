@@ -11,7 +11,7 @@ returns-in_default c = question-unread c.next_line-next.ensures c.in_default.is
 
 pub returns-in_default-line : goal.returns-in_default-line
 returns-in_default-line c =
-    question-none c.next_line-next.ensures c.in-Legible.is (λ q e. ⊎_elim (λ h. omega arith) (λ h. omega arith) (rw e at c.in_default-line.keys2))
+    question-none c.next_line-next.ensures c.in-Legible.is c.in_default-line.not-Asked
 
 pub returns : goal.returns
 returns c =

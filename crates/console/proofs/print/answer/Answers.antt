@@ -35,7 +35,7 @@ put_word_number-requires c =
     let from-right : (List ℕ) = (word_number (bytes " ") c.args.right) in
     let from-left : (List ℕ) = (word_number (bytes ") (by ") c.args.left ++ from-right) in
     let room₁ : (Room c.put_word_number-a.new.out c.put_word_number-a.result (from-left)) = (room-then _ _ c.requires c.put_word_number-a.ensures) in
-    let room₂ : (Room c.put_word_number-b.new.out c.put_word_number-b.result (from-right (start (PLACE After-put_word_number)))) = (room-then _ _ (room₁) c.put_word_number-b.ensures) in
+    let room₂ : (Room c.put_word_number-b.new.out c.put_word_number-b.result (from-right)) = (room-then _ _ (room₁) c.put_word_number-b.ensures) in
     room₂
 
 -- `from-right`: the text from its second branch on, and from its first

@@ -14,7 +14,7 @@ use Rattle.console.proofs.Printed.{list-room, list-next}
 use Rattle.console.proofs.print.list.Given as goal
 
 abbrev pub invariant-loop-i : goal.invariant-loop-i
-invariant-loop-i l = (i ≤ length l.question) × (length l.end ≡ length l.initial.out) × Puts l.initial.out l.at (list_text (take i l.question)) l.end l.i
+invariant-loop-i l = (l.i ≤ length l.question) × (length l.out ≡ length l.initial.out) × Puts l.initial.out l.at (list_text (take l.i l.question)) l.out l.end
 
 abbrev pub decreases-loop-i : goal.decreases-loop-i
-decreases-loop-i l = length l.question - i
+decreases-loop-i l = length l.question - l.i

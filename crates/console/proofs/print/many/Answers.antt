@@ -39,8 +39,8 @@ put_word_number-c-requires c =
     let from-carrier : (List ℕ) = (word_number (bytes " (carrier ") c.args.carrier ++ bytes "))\n") in
     let behind : (List ℕ) = (list_text c.args.question.now ++ from-carrier) in
     let room₁ : (Room c.put_word-a.new.out c.put_word-a.result (behind)) = (room-then _ (behind) c.requires c.put_word-a.ensures) in
-    let room₂ : (Room c.list-b.new.out c.list-b.result (from-carrier (start (PLACE After-put_word)))) = (room-then _ _ (room₁) c.list-b.ensures) in
-    room-first _ (word_number (bytes " (carrier ") (start (goal.at.put_word_number-c-requires c).After-put_word-a).args.carrier) _ room₂
+    let room₂ : (Room c.list-b.new.out c.list-b.result (from-carrier)) = (room-then _ _ (room₁) c.list-b.ensures) in
+    room-first _ (word_number (bytes " (carrier ") c.args.carrier) _ room₂
 
 -- `from-carrier`: the line behind its numbers
 -- `behind`: the line behind its first word
@@ -51,7 +51,7 @@ put_word-requires c =
     let from-carrier : (List ℕ) = (word_number (bytes " (carrier ") c.args.carrier ++ bytes "))\n") in
     let behind : (List ℕ) = (list_text c.args.question.now ++ from-carrier) in
     let room₁ : (Room c.put_word-a.new.out c.put_word-a.result (behind)) = (room-then _ (behind) c.requires c.put_word-a.ensures) in
-    let room₂ : (Room c.list-b.new.out c.list-b.result (from-carrier (start (PLACE After-put_word)))) = (room-then _ _ (room₁) c.list-b.ensures) in
+    let room₂ : (Room c.list-b.new.out c.list-b.result (from-carrier)) = (room-then _ _ (room₁) c.list-b.ensures) in
     room-then _ (bytes "))\n") (room₂) c.put_word_number-c.ensures
 
 -- `from-carrier`: the line behind its numbers
@@ -63,6 +63,6 @@ returns c =
     let from-carrier : (List ℕ) = (word_number (bytes " (carrier ") c.args.carrier ++ bytes "))\n") in
     let behind : (List ℕ) = (list_text c.args.question.now ++ from-carrier) in
     let room₁ : (Room c.put_word-a.new.out c.put_word-a.result (behind)) = (room-then _ (behind) c.requires c.put_word-a.ensures) in
-    let room₂ : (Room c.list-b.new.out c.list-b.result (from-carrier (start (PLACE After-put_word)))) = (room-then _ _ (room₁) c.list-b.ensures) in
+    let room₂ : (Room c.list-b.new.out c.list-b.result (from-carrier)) = (room-then _ _ (room₁) c.list-b.ensures) in
     let end = puts_then _ _ room₂ c.put_word_number-c.ensures c.put_word.ensures in
     puts_then _ _ c.requires c.put_word-a.ensures (puts_then _ _ room₁ c.list-b.ensures end)

@@ -14,8 +14,8 @@ use Rattle.console.proofs.print.pair.Goals as goal
 pub put_word_number-a-requires : goal.put_word_number-a-requires
 unfolding pair_line bytes
 put_word_number-a-requires c =
-    let answer : (Answer) = (record { carrier = c.args.carrier; left = c.args.left; right = c.args.right }) in
     let from-lifts : (List ℕ) = (word_number (bytes ") (lifts ") c.args.lifts ++ bytes "))\n") in
+    let answer : (Answer) = (record { carrier = c.args.carrier; left = c.args.left; right = c.args.right }) in
     let from-carrier : (List ℕ) = (answer_text answer ++ from-lifts) in
     let from_second : (List ℕ) = (word_number (bytes " ") c.args.y ++ from-carrier) in
     room-first _ (word_number (bytes "(pair ") c.args.x) from_second c.requires
@@ -25,8 +25,8 @@ put_word_number-a-requires c =
 pub put_word_number-b-requires : goal.put_word_number-b-requires
 unfolding pair_line bytes
 put_word_number-b-requires c =
-    let answer : (Answer) = (record { carrier = c.args.carrier; left = c.args.left; right = c.args.right }) in
     let from-lifts : (List ℕ) = (word_number (bytes ") (lifts ") c.args.lifts ++ bytes "))\n") in
+    let answer : (Answer) = (record { carrier = c.args.carrier; left = c.args.left; right = c.args.right }) in
     let from-carrier : (List ℕ) = (answer_text answer ++ from-lifts) in
     let from_second : (List ℕ) = (word_number (bytes " ") c.args.y ++ from-carrier) in
     let room₁ : (Room c.put_word_number-a.new.out c.put_word_number-a.result (from_second)) = (room-then _ _ c.requires c.put_word_number-a.ensures) in
@@ -42,35 +42,35 @@ answer-c-requires c =
     let from-carrier : (List ℕ) = (answer_text answer ++ from-lifts) in
     let from_second : (List ℕ) = (word_number (bytes " ") c.args.y ++ from-carrier) in
     let room₁ : (Room c.put_word_number-a.new.out c.put_word_number-a.result (from_second)) = (room-then _ _ c.requires c.put_word_number-a.ensures) in
-    let room₂ : (Room c.put_word_number-b.new.out c.put_word_number-b.result (from-carrier (start (PLACE After-put_word_number)))) = (room-then _ _ (room₁) c.put_word_number-b.ensures) in
-    room-first _ (answer_text (answer (start (goal.at.answer-c-requires c).After-put_word_number-a))) _ room₂
+    let room₂ : (Room c.put_word_number-b.new.out c.put_word_number-b.result (from-carrier)) = (room-then _ _ (room₁) c.put_word_number-b.ensures) in
+    room-first _ (answer_text (answer)) _ room₂
 
 -- `answer`: the answer, and the line from its lifts on, from the answer on, and from its second part on
 -- `room₁`: behind each write there is room for the rest of the line
 pub put_word_number-d-requires : goal.put_word_number-d-requires
 unfolding bytes pair_line
 put_word_number-d-requires c =
-    let answer : (Answer) = (record { carrier = c.args.carrier; left = c.args.left; right = c.args.right }) in
     let from-lifts : (List ℕ) = (word_number (bytes ") (lifts ") c.args.lifts ++ bytes "))\n") in
+    let answer : (Answer) = (record { carrier = c.args.carrier; left = c.args.left; right = c.args.right }) in
     let from-carrier : (List ℕ) = (answer_text answer ++ from-lifts) in
     let from_second : (List ℕ) = (word_number (bytes " ") c.args.y ++ from-carrier) in
     let room₁ : (Room c.put_word_number-a.new.out c.put_word_number-a.result (from_second)) = (room-then _ _ c.requires c.put_word_number-a.ensures) in
-    let room₂ : (Room c.put_word_number-b.new.out c.put_word_number-b.result (from-carrier (start (PLACE After-put_word_number)))) = (room-then _ _ (room₁) c.put_word_number-b.ensures) in
-    let room₃ : (Room c.answer-c.new.out c.answer-c.result (from-lifts (start (first (PLACE After-put_word_number2))))) = (room-then _ _ (room₂) c.answer-c.ensures) in
-    room-first _ (word_number (bytes ") (lifts ") (start (first (goal.at.put_word_number-d-requires c).After-put_word_number-b)).args.lifts) _ room₃
+    let room₂ : (Room c.put_word_number-b.new.out c.put_word_number-b.result (from-carrier)) = (room-then _ _ (room₁) c.put_word_number-b.ensures) in
+    let room₃ : (Room c.answer-c.new.out c.answer-c.result from-lifts) = (room-then _ _ (room₂) c.answer-c.ensures) in
+    room-first _ (word_number (bytes ") (lifts ") c.args.lifts) _ room₃
 
 -- `answer`: the answer, and the line from its lifts on, from the answer on, and from its second part on
 -- `room₁`: behind each write there is room for the rest of the line
 pub put_word-requires : goal.put_word-requires
 unfolding pair_line bytes
 put_word-requires c =
-    let answer : (Answer) = (record { carrier = c.args.carrier; left = c.args.left; right = c.args.right }) in
     let from-lifts : (List ℕ) = (word_number (bytes ") (lifts ") c.args.lifts ++ bytes "))\n") in
+    let answer : (Answer) = (record { carrier = c.args.carrier; left = c.args.left; right = c.args.right }) in
     let from-carrier : (List ℕ) = (answer_text answer ++ from-lifts) in
     let from_second : (List ℕ) = (word_number (bytes " ") c.args.y ++ from-carrier) in
     let room₁ : (Room c.put_word_number-a.new.out c.put_word_number-a.result (from_second)) = (room-then _ _ c.requires c.put_word_number-a.ensures) in
-    let room₂ : (Room c.put_word_number-b.new.out c.put_word_number-b.result (from-carrier (start (PLACE After-put_word_number)))) = (room-then _ _ (room₁) c.put_word_number-b.ensures) in
-    let room₃ : (Room c.answer-c.new.out c.answer-c.result (from-lifts (start (first (PLACE After-put_word_number2))))) = (room-then _ _ (room₂) c.answer-c.ensures) in
+    let room₂ : (Room c.put_word_number-b.new.out c.put_word_number-b.result (from-carrier)) = (room-then _ _ (room₁) c.put_word_number-b.ensures) in
+    let room₃ : (Room c.answer-c.new.out c.answer-c.result from-lifts) = (room-then _ _ (room₂) c.answer-c.ensures) in
     room-then _ (bytes "))\n") (room₃) c.put_word_number-d.ensures
 
 -- `answer`: the answer, and the line from its lifts on, from the answer on, and from its second part on
@@ -78,13 +78,13 @@ put_word-requires c =
 pub returns : goal.returns
 unfolding pair_line bytes
 returns c =
-    let answer : (Answer) = (record { carrier = c.args.carrier; left = c.args.left; right = c.args.right }) in
     let from-lifts : (List ℕ) = (word_number (bytes ") (lifts ") c.args.lifts ++ bytes "))\n") in
+    let answer : (Answer) = (record { carrier = c.args.carrier; left = c.args.left; right = c.args.right }) in
     let from-carrier : (List ℕ) = (answer_text answer ++ from-lifts) in
     let from_second : (List ℕ) = (word_number (bytes " ") c.args.y ++ from-carrier) in
     let room₁ : (Room c.put_word_number-a.new.out c.put_word_number-a.result (from_second)) = (room-then _ _ c.requires c.put_word_number-a.ensures) in
-    let room₂ : (Room c.put_word_number-b.new.out c.put_word_number-b.result (from-carrier (start (PLACE After-put_word_number)))) = (room-then _ _ (room₁) c.put_word_number-b.ensures) in
-    let room₃ : (Room c.answer-c.new.out c.answer-c.result (from-lifts (start (first (PLACE After-put_word_number2))))) = (room-then _ _ (room₂) c.answer-c.ensures) in
+    let room₂ : (Room c.put_word_number-b.new.out c.put_word_number-b.result (from-carrier)) = (room-then _ _ (room₁) c.put_word_number-b.ensures) in
+    let room₃ : (Room c.answer-c.new.out c.answer-c.result from-lifts) = (room-then _ _ (room₂) c.answer-c.ensures) in
     let end = puts_then _ _ room₃ c.put_word_number-d.ensures c.put_word.ensures in
     let lifts = puts_then _ _ room₂ c.answer-c.ensures end in
     puts_then _ _ c.requires c.put_word_number-a.ensures (puts_then _ _ room₁ c.put_word_number-b.ensures lifts)

@@ -11,12 +11,12 @@ returns-in_default c = entry-unread c.next_line-next.ensures c.in_default.is
 
 pub returns-in_default-line : goal.returns-in_default-line
 returns-in_default-line c =
-    entry-none c.next_line-next.ensures c.in-Legible.is (λ w p e. ⊎_elim (λ h. omega arith) (λ h. omega arith) (rw e at c.in_default-line.keys2))
+    entry-none c.next_line-next.ensures c.in-Legible.is c.in_default-line.not-Part
 
 pub returns-then-w-v : goal.returns-then-w-v
 returns-then-w-v c =
-    entry_other (called (goal.at.returns-then-w-v c).UNKNOWN-After-reading).next-line.ensures c.in-Legible.is c.in-Part.is c.if-w-v.true
+    entry_other c.next_line-next.ensures c.in-Legible.is c.in-Part.is c.if-w-v.true
 
 pub returns : goal.returns
 returns c =
-    entry-own (called (goal.at.returns c).UNKNOWN-After-reading).next-line.ensures c.in-Legible.is c.in-Part.is c.if-w-v.false
+    entry-own c.next_line-next.ensures c.in-Legible.is c.in-Part.is c.if-w-v.false
