@@ -4,11 +4,7 @@ use Prim.Native.Nat.{ℕ}
 use mathlib.Core.Path.{sym}
 use lib.ListN.{length-replicate}
 use Rattle.console.specs.Whole.{most_room}
-use Rattle.sessions.proofs.bytes.largest_buffer.Statement.{statement}
-use Rattle.sessions.proofs.bytes.largest_buffer.Tie as tie
+use Rattle.sessions.proofs.bytes.largest_buffer.Goals as goal
 
-returns : tie.Need-returns
+pub returns : goal.returns
 returns c = sym (length-replicate {A = ℕ} most_room 0)
-
-pub largest-buffer-spec : {M : Type 1} → statement M
-largest-buffer-spec = tie.close (tie.spec returns)
