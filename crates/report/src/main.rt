@@ -9,6 +9,12 @@ ghost use Rattle.console.specs.Run.{most_bytes, output};
 ghost use Rattle.console.specs.Whole.{most_room};
 
 use console::Written;
+use std::io::{Read, Stdin};
+
+// The numbers of standard output and standard error.
+const STDOUT: i32 = 1;
+
+const STDERR: i32 = 2;
 
 // The most bytes of an input, and one more, by which an input above the limit is known.
 const INPUT: usize = console::MOST_BYTES + 1;
@@ -29,16 +35,14 @@ fn output_buffer() -> [u8; console::MOST_ROOM]
 
 // Reads standard input until it ends or the buffer is full, and answers how many bytes there are. Where a read fails it answers that there are none, which is
 // printed as an illegible line 1: an input that was read in part is not answered.
-fn read_input(buffer: &mut [u8]) -> usize
+fn read_input(stdin: &mut Stdin, buffer: &mut [u8]) -> usize
     ensures { IsPrefixLen result buffer.new }
 {
     let mut done = 0;
     while done < buffer.len() {
-        let got = libc::read(libc::STDIN_FILENO, &mut buffer[done..]);
-        if got < 0 {
+        let Ok(more) = stdin.read(&mut buffer[done..]) else {
             return 0;
-        }
-        let more = io::count(got, &buffer[done..]);
+        };
         if more == 0 {
             return done;
         }
@@ -59,14 +63,14 @@ fn text(input: &[u8], out: &mut [u8]) -> usize
     }
 }
 
-fn main() {
+fn main(rt: HostRuntime) {
     let mut input = input_buffer();
-    let n = read_input(&mut input);
+    let n = read_input(&mut rt.stdin(), &mut input);
     let mut out = output_buffer();
     let count = text(&input[..n], &mut out);
-    if !io::write_all(libc::STDOUT_FILENO, &out[..count]) {
+    if !io::write_all(STDOUT, &out[..count]) {
         io::write_all(
-            libc::STDERR_FILENO,
+            STDERR,
             b"report: standard output could not be written whole: the report is incomplete\n",
         );
     }
