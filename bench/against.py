@@ -3,7 +3,7 @@
 
     against.py OLD NEW [RUNS]
 
-OLD and NEW are archives of `rt staticlib lca` with this checkout's interface, or the tops of checkouts in which it was run: such a one is linked with its own
+OLD and NEW are archives of `bash tools/build.sh lca` with this checkout's interface, or the tops of checkouts in which it was run: such a one is linked with its own
 include/lca.h and bench/against.c, so that builds of other interfaces can be compared too. Both programs are run RUNS times (11), by turns. A row has the medians
 over the runs.
 """

@@ -16,7 +16,7 @@
  *
  * From the top of the repository:
  *
- *     rt staticlib lca
+ *     bash tools/build.sh lca
  *     cc -std=c99 -Wall -Wextra -Wpedantic -O2 -Iinclude examples/carrier.c target/staticlib/liblca.a -o target/carrier
  *     target/carrier < examples/carrier.txt
  */

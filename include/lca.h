@@ -23,7 +23,7 @@
  *   count    of a part, its wear, a whole number of 32 bits
  *   total    of a part, the wear of its assembly, in 64 bits: the sum of the counts of all parts that it carries
  *
- * Link with target/staticlib/liblca.a, which `rt staticlib lca` makes.
+ * Link with target/staticlib/liblca.a, which `bash tools/build.sh lca` makes.
  *
  *
  * Buffers

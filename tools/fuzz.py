@@ -4,7 +4,7 @@
     python3 tools/fuzz.py COUNT [SEED]
 
 Each input is a small machine with questions, in which up to three bytes are taken out, put in, changed, or cut off with all that follows. It runs
-target/bin/report (after `rt check report`) and tools/report.py, and says how many agree, or the first input on which they do not.
+target/bin/report (after `bash tools/build.sh report`) and tools/report.py, and says how many agree, or the first input on which they do not.
 """
 import os
 import random

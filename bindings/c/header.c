@@ -6,7 +6,7 @@
  * the tests of the calls that answer, lengths.h, which has those of the lengths, and known.h, which all share. It is compiled as C99 and
  * as C++ (.ci/run). By hand, from the top of the repository:
  *
- *     rt staticlib lca
+ *     bash tools/build.sh lca
  *     cc -std=c99 -Wall -Wextra -Wpedantic -Werror -Iinclude bindings/c/header.c target/staticlib/liblca.a -o target/header
  *     target/header
  */

@@ -1,4 +1,4 @@
-//! Links `liblca.a`: from the folder in `LCA_LIB_DIR` if that is set, otherwise from where `rt staticlib lca` writes it.
+//! Links `liblca.a`: from the folder in `LCA_LIB_DIR` if that is set, otherwise from where `bash tools/build.sh lca` writes it.
 
 use std::env;
 use std::path::{Path, PathBuf};
@@ -17,7 +17,7 @@ fn main() {
         println!("cargo::rustc-link-lib=static=lca");
     } else {
         println!(
-            "cargo::error={} is not there: run `rt staticlib lca` at the top of the repository first",
+            "cargo::error={} is not there: run `bash tools/build.sh lca` at the top of the repository first",
             archive.display()
         );
     }

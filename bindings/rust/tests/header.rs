@@ -29,7 +29,7 @@ fn the_archive_has_the_version_of_this_crate() {
         calls::version(),
         VERSION,
         "the archive's version is on the left, this crate's on the right: raise both, in crates/lca (specs/Version.antt and src/lib.rt) \
-         and lca::VERSION, and make the archive again by `rt staticlib lca`"
+         and lca::VERSION, and make the archive again by `bash tools/build.sh lca`"
     );
 }
 

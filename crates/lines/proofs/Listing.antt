@@ -1,6 +1,7 @@
 -- How the numbers of a list are read, one by one, and what they are where the reading ends.
 -- Assumes nothing.
-use Prim.Native.Nat.{ℕ, zero, suc, ◌+◌, ◌-◌, ◌≤◌, ◌<◌}
+use Prim.Native.Nat.{ℕ, zero, suc, ◌+◌, ◌-◌, ◌≤◌, ◌<◌, zero-le}
+use native.Mathlib.Nat.{sub-zero}
 use native.Mathlib.Numerals.{add-one}
 use native.Mathlib.Omega.{arith}
 use mathlib.Core.Path.{◌≡◌, refl, sym, ◌∙◌}
@@ -25,6 +26,11 @@ Read = Option (List ℕ × List ℕ)
 abbrev behind : List ℕ → Read → Read
 behind xs r = map (λ found. (xs ++ found.0, found.1)) r
 
+-- with no numbers before them
+behind-none : (r : Read) → behind [] r ≡ r
+behind-none none = refl
+behind-none (some found) = refl
+
 -- a number before them, and the others before that
 behind_more : (xs : List ℕ) (x : ℕ) (r : Read) → behind xs (bind r λ found. some (x ∷ found.0, found.1)) ≡ behind (xs ++ (x ∷ [])) r
 unfolding bind
@@ -42,6 +48,10 @@ pub record Listing (line : List ℕ) (at most : ℕ) (beside : List ℕ) (i coun
   pub few : count ≤ most
   pub within : i ≤ length line
   pub is : listed most (drop at line) ≡ behind (take count beside) (listed (most - count) (drop i line))
+
+-- before the first number
+pub listing_none : (line : List ℕ) (at most : ℕ) (beside : List ℕ) → at ≤ length line → Listing line at most beside at 0
+listing_none line at most beside h = record { few = zero-le; within = h; is = rw (sub-zero, behind-none) refl }
 
 module _ {line : List ℕ} {at most : ℕ} {beside : List ℕ} {i count : ℕ} (l : Listing line at most beside i count) where
   -- no more are read

@@ -13,7 +13,7 @@ use lib.Dec.{eqb}
 use lib.ListN.{length}
 use Rattle.tree.specs.Scan.{least}
 use Rattle.tree.specs.Tree.{parent, climb, Ancestor, level, Tree}
-use Rattle.tree.specs.Lca.{Lca, lca}
+use Rattle.tree.specs.Lca.{Lca}
 use Rattle.tree.specs.Tables.{Lent, own}
 use Rattle.tree.specs.Branch.{Branch, branch, Answer, IsAnswer, pair_answer, branch_at, answer_by}
 use Rattle.tree.proofs.Scans.{by_equal, least-here, least-before}

@@ -7,7 +7,6 @@ use mathlib.Core.Logic.{◌≢◌}
 use mathlib.Core.Bool.{true}
 use mathlib.Core.List.{List}
 use lib.ListN.{length}
-use Rattle.tree.specs.Scan.{least}
 use Rattle.tree.specs.Tree.{parent, climb, Ancestor, is_root, root_of, level, Tree}
 use Rattle.tree.proofs.Scans.{by_order, least-here, least-at-most}
 use Rattle.tree.proofs.Roots.{is_root_lem, root_is, root_of-found}

@@ -1,6 +1,5 @@
 -- `bits::lowest_one` meets its contract: 0 has no one bit, and of any other x the digits in common with x - 1 are all but the lowest one.
 -- Assumes nothing.
-use Rattle.std.proofs.Common.{sym}
 use Rattle.std.proofs.Math.Nat.{pos_of_ne-zero}
 use Rattle.std.proofs.Common.{eq-eqb, ne_eqb}
 use Rattle.bits.specs.Bits.{lowest_one}

@@ -2,9 +2,7 @@
 -- Assumes nothing.
 use native.Mathlib.Omega.{arith}
 use borrow.Author.Rules.{rules}
-use Prim.Native.Nat.{◌-◌, ◌≤◌}
 use native.Mathlib.Numerals.{add-one}
-use Rattle.tree.specs.Sections.{Same}
 use Rattle.tree.proofs.Differences.{same_none, same_more}
 use Rattle.cells.proofs.agree.Goals as goal
 

@@ -1,11 +1,7 @@
 -- `cells::agree` meets its contract: no bit differs, or the i cells passed are the same.
 -- Assumes nothing.
-use native.Mathlib.Omega.{arith}
-use borrow.Author.Rules.{rules}
 use Prim.Native.Nat.{◌-◌, ◌≤◌}
-use native.Mathlib.Numerals.{add-one}
 use Rattle.tree.specs.Sections.{Same}
-use Rattle.tree.proofs.Differences.{same_none, same_more}
 use Rattle.cells.proofs.agree.Given as goal
 
 abbrev pub invariant-loop-i : goal.invariant-loop-i

@@ -1,6 +1,5 @@
 -- `cells::clear` meets its contract: every cell is filled with 0.
 -- Assumes nothing.
-use borrow.Author.Rules.{rules}
 use Rattle.cells.proofs.clear.Goals as goal
 
 pub returns : goal.returns

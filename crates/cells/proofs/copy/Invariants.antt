@@ -1,12 +1,9 @@
 -- `cells::copy` meets its contract: with i cells copied, the two stretches of i cells are the same.
 -- Assumes nothing.
-use native.Mathlib.Omega.{arith}
-use borrow.Author.Rules.{rules}
 use Prim.Native.Nat.{◌-◌, ◌≤◌}
 use mathlib.Core.Path.{◌≡◌}
-use lib.ListN.{length, length-set}
+use lib.ListN.{length}
 use Rattle.cells.specs.Cells.{Copied}
-use Rattle.cells.proofs.Stretches.{copied_none, copied_more}
 use Rattle.cells.proofs.copy.Given as goal
 
 abbrev pub invariant-loop-i : goal.invariant-loop-i

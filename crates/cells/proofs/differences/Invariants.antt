@@ -1,13 +1,8 @@
 -- `cells::differences` meets its contract: where no bit is gathered, the i cells passed are the same.
 -- Assumes nothing.
-use native.Mathlib.Omega.{arith}
-use native.Mathlib.Numerals.{add-one}
-use borrow.Author.Rules.{rules}
 use Prim.Native.Nat.{◌-◌, ◌≤◌}
 use mathlib.Core.Path.{◌≡◌}
 use Rattle.tree.specs.Sections.{Same}
-use Rattle.tree.proofs.Differences.{same_none, same_more}
-use Rattle.cells.proofs.Stretches.{no_bits}
 use Rattle.cells.proofs.differences.Given as goal
 
 abbrev pub invariant-loop-i : goal.invariant-loop-i

@@ -2,10 +2,8 @@
 -- Assumes nothing.
 use native.Mathlib.Omega.{arith}
 use borrow.Author.Rules.{rules}
-use Prim.Native.Nat.{◌-◌, ◌≤◌}
 use mathlib.Core.Path.{◌≡◌}
-use lib.ListN.{length, length-set}
-use Rattle.cells.specs.Cells.{Filled}
+use lib.ListN.{length-set}
 use Rattle.cells.proofs.Stretches.{filled_none, filled_more}
 use Rattle.cells.proofs.fill.Goals as goal
 

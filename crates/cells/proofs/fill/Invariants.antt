@@ -1,12 +1,9 @@
 -- `cells::fill` meets its contract: with i cells filled, the stretch of i cells holds the value.
 -- Assumes nothing.
-use native.Mathlib.Omega.{arith}
-use borrow.Author.Rules.{rules}
 use Prim.Native.Nat.{◌-◌, ◌≤◌}
 use mathlib.Core.Path.{◌≡◌}
-use lib.ListN.{length, length-set}
+use lib.ListN.{length}
 use Rattle.cells.specs.Cells.{Filled}
-use Rattle.cells.proofs.Stretches.{filled_none, filled_more}
 use Rattle.cells.proofs.fill.Given as goal
 
 abbrev pub invariant-loop-i : goal.invariant-loop-i

@@ -1,6 +1,5 @@
 -- `cells::fill_all` meets its contract: every cell is filled.
 -- Assumes nothing.
-use borrow.Author.Rules.{rules}
 use lib.ListN.{length}
 use Rattle.cells.proofs.Stretches.{filled-all}
 use Rattle.cells.proofs.fill_all.Goals as goal

@@ -1,11 +1,9 @@
 -- `cells::first_from` meets its contract: the largest cell is below the bound, or the cells passed are.
 -- Assumes nothing.
-use Prim.Native.Nat.{ℕ, ◌-◌, ◌≤◌, ◌<◌}
 use native.Mathlib.Nat.{le_refl, not-suc-le-zero}
 use native.Mathlib.Omega.{arith}
 use borrow.Author.Count.{below_more}
 use borrow.Author.Rules.{rules}
-use lib.ListN.{length, get_or}
 use Rattle.tree.proofs.Places.{first-from}
 use Rattle.cells.proofs.first_from.Goals as goal
 

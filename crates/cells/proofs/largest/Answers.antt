@@ -4,9 +4,6 @@ use native.Mathlib.Nat.{not-suc-le-zero}
 use native.Mathlib.Omega.{arith}
 use borrow.Author.Count.{below_more}
 use borrow.Author.Rules.{rules}
-use Prim.Native.Nat.{ℕ, ◌-◌, ◌≤◌, ◌<◌}
-use mathlib.Core.Logic.{⊎_elim}
-use lib.ListN.{length, get_or}
 use Rattle.cells.proofs.largest.Goals as goal
 use Rattle.cells.proofs.largest.Goals.{then-most-x, else-most-x}
 
