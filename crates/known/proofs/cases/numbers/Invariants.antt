@@ -1,12 +1,11 @@
 -- `known::cases::numbers` ends, and puts no more numbers than there is room for.
 -- Assumes nothing.
 use Prim.Native.Nat.{◌+◌, ◌-◌, ◌≤◌, ◌<◌}
-use mathlib.Core.Path.{◌≡◌}
 use lib.ListN.{length}
 use Rattle.known.proofs.cases.numbers.Given as goal
 
 abbrev pub invariant-loop-i : goal.invariant-loop-i
-invariant-loop-i l = (l.count ≤ length l.initial.found) × (length l.found ≡ length l.initial.found) × (l.value < 65536) × (l.i ≤ length l.line + 1)
+invariant-loop-i l = (l.count ≤ length l.initial.found) × (l.value < 65536) × (l.i ≤ length l.line + 1)
 
 abbrev pub decreases-loop-i : goal.decreases-loop-i
 decreases-loop-i l = length l.line + 1 - l.i
