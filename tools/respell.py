@@ -26,6 +26,8 @@ OTHERWISE = {
     'lift-cells': 'lift_length',
     'order-cells': 'order_length',
     'trail-cells': 'trail_length',
+    'count-cells': 'count_length',
+    'total-cells': 'total_length',
 }
 NAME = r"[A-Za-z0-9_₀-₉ᴰ'′-]"
 TOKEN = re.compile(r"(?<!%s)[a-z]%s*" % (NAME, NAME))

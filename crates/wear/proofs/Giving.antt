@@ -25,14 +25,14 @@ use Rattle.wear.proofs.Weights.{total-root}
 -- an accepted sheet, with counts and totals that fit
 pub record Granted (s work counts totals : List ℕ) : Type 0 where
   pub ready : Ready s work
-  pub count_cells_lem : length counts ≡ length s
-  pub total_cells_lem : length totals ≡ length s
+  pub count_length : length counts ≡ length s
+  pub total_length : length totals ≡ length s
 
 pub granted : (s work counts totals : List ℕ) → totals_verdict s work counts totals ≡ accepted → Granted s work counts totals
 granted s work counts totals e =
     let (ready, none) = sheet-ready s work (first_unfit (wear_fits (length s) (length counts) (length totals))) e in
-    let (count_cells_lem, total_cells_lem) = wear-fit (length s) (length counts) (length totals) none in
-    record { ready = ready; count_cells_lem = count_cells_lem; total_cells_lem = total_cells_lem }
+    let (count_length, total_length) = wear-fit (length s) (length counts) (length totals) none in
+    record { ready = ready; count_length = count_length; total_length = total_length }
 
 -- the root's cell holds the sum of the list
 pub whole-root : {s work counts totals : List ℕ} → Granted s work counts totals → get_or (totals_of s counts) (root_of s) 0 ≡ sum_of counts
@@ -41,7 +41,7 @@ whole-root {s} {work} {counts} g =
     let t = g.ready.tree in
     ap (λ (r : ℕ). get_or (totals_of s counts) r 0) (sym (root-found t))
     ∙ cell-tabulate (total s counts) (length s) t.root t.root-inside
-    ∙ total-root t counts g.count_cells_lem
+    ∙ total-root t counts g.count_length
 
 module _ (s before counts totals : List ℕ) {r : Outcome} {after : List ℕ}
     (tested : OrderGives s (first_unfit (wear_fits (length s) (length counts) (length totals))) before r after) where

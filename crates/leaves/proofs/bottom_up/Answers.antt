@@ -2,6 +2,7 @@
 -- serve.
 -- Assumes nothing.
 use native.Mathlib.Omega.{arith}
+use borrow.Author.Rules.{rules}
 use Prim.Native.Nat.{◌+◌}
 use mathlib.Core.Bool.{true≢false}
 use mathlib.Core.Path.{◌≡◌}

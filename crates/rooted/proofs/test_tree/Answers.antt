@@ -16,6 +16,15 @@ use Rattle.rooted.specs.Jumps.{Rooted}
 use Rattle.rooted.specs.Tested.{TreeTested}
 use Rattle.rooted.proofs.Losing.{Passes, one_passes, tested-refused}
 use Rattle.rooted.proofs.test_tree.Goals as goal
+use Rattle.rooted.proofs.test_tree.Goals.{Else-n-root}
+
+-- the sheet has one root, with room for the loop test
+rooted : (c : Else-n-root) → Rooted c.args.parents.now c.args.work.now c.lone_root-root.result
+rooted c = record { one = c.lone_root-root.ensures.0 c.if-n-root.false; fits = c.requires.0 }
+
+-- so it passes tests 4 to 6
+passes : (c : Else-n-root) → Passes c.args.parents.now c.lone_root-root.result
+passes c = one_passes (rooted c).one
 
 pub refuse_root-requires : goal.refuse_root-requires
 refuse_root-requires c =
@@ -27,31 +36,20 @@ returns-then-n-root c =
     let g = c.refuse_root.ensures in
     subst (λ (r : Outcome). TreeTested s.parents.now s.shift s.ordered r s.work.now) (sym g.is) (tested-refused g.why g.refusal)
 
--- `rooted`: the sheet has one root, with room for the loop test
 pub first_lost-v-requires : goal.first_lost-v-requires
-first_lost-v-requires c =
-    let rooted : (Rooted c.args.parents.now c.args.work.now c.lone_root-root.result) = (record { one = c.lone_root-root.ensures.0 c.if-n-root.false; fits = c.requires.0 }) in
-    rooted
+first_lost-v-requires c = rooted (goal.at.first_lost-v-requires c).Else-n-root
 
--- `rooted`: the sheet has one root, with room for the loop test
--- `passes`: so it passes tests 4 to 6
 pub returns-then-v-n : goal.returns-then-v-n
 returns-then-v-n c =
-    let rooted : (Rooted c.args.parents.now c.args.work.now c.lone_root-root.result) = (record { one = c.lone_root-root.ensures.0 c.if-n-root.false; fits = c.requires.0 }) in
-    let passes : (Passes c.args.parents.now c.lone_root-root.result) = (one_passes rooted.one) in
-    let p = passes in
+    let p = passes (goal.at.returns-then-v-n c).Else-n-root in
     let shift = c.args.shift in
     let e = c.first_lost-v.ensures.0 in
     tested-refused (Cycle (shift + c.first_lost-v.result))
     (refused-cycle shift _ p.entries p.below p.none (rw e at c.if-v-n.true) ∙ ap (λ k. refused 7 (shift + k)) (sym e))
 
--- `rooted`: the sheet has one root, with room for the loop test
--- `passes`: so it passes tests 4 to 6
 pub returns : goal.returns
 returns c =
-    let rooted : (Rooted c.args.parents.now c.args.work.now c.lone_root-root.result) = (record { one = c.lone_root-root.ensures.0 c.if-n-root.false; fits = c.requires.0 }) in
-    let passes : (Passes c.args.parents.now c.lone_root-root.result) = (one_passes rooted.one) in
-    let p = passes in
+    let p = passes (goal.at.returns c).Else-n-root in
     let s = c.args.parents.now in
     let e = c.first_lost-v.ensures.0 in
     let all : c.first_lost-v.result ≡ length s = le_antisymm (rw (sym e) at (least-le (lost s) (length s))) c.if-v-n.false in

@@ -7,23 +7,22 @@ use Rattle.routes.specs.Answers.{Asked, asked_by}
 use Rattle.routes.proofs.Asking.{admitted-as, admitted-answerable}
 use Rattle.routes.proofs.Giving.{list-refused, list-answered}
 use Rattle.routes.proofs.list.Goals as goal
+use Rattle.routes.proofs.list.Goals.{Start}
 
--- `asked`: what is lent
+-- what is lent
+abbrev asked : Start → Asked
+asked c = let a = c.args in asked_by a.parents.now a.label.now a.tour.now a.lift.now a.order.now a.work.now a.question.now a.answer.now
+
 pub returns-in_default : goal.returns-in_default
 returns-in_default c =
-    let asked : (Asked) = (let a = c.args in asked_by a.parents.now a.label.now a.tour.now a.lift.now a.order.now a.work.now a.question.now a.answer.now) in
-    list-refused asked (admitted-as asked c.list_unfit-unfit.ensures c.admit-r.ensures) c.in_default.is
+    list-refused (asked (goal.at.returns-in_default c).Start) (admitted-as (asked (goal.at.returns-in_default c).Start) c.list_unfit-unfit.ensures c.admit-r.ensures) c.in_default.is
 
--- `asked`: what is lent
 pub list-requires : goal.list-requires
 list-requires c =
-    let asked : (Asked) = (let a = c.args in asked_by a.parents.now a.label.now a.tour.now a.lift.now a.order.now a.work.now a.question.now a.answer.now) in
-    let ready = admitted-answerable asked _ c.admit-r.ensures c.in-Accepted.is in
+    let ready = admitted-answerable (asked (goal.at.list-requires c).Start) _ c.admit-r.ensures c.in-Accepted.is in
     (ready.listed, list-fit _ (sym c.list_unfit-unfit.ensures ∙ ready.owned.fits), ready.owned.label, ready.owned.tour)
 
--- `asked`: what is lent
 pub returns : goal.returns
 returns c =
-    let asked : (Asked) = (let a = c.args in asked_by a.parents.now a.label.now a.tour.now a.lift.now a.order.now a.work.now a.question.now a.answer.now) in
-    list-answered asked (admitted-as asked c.list_unfit-unfit.ensures c.admit-r.ensures) c.in-Accepted.is
+    list-answered (asked (goal.at.returns c).Start) (admitted-as (asked (goal.at.returns c).Start) c.list_unfit-unfit.ensures c.admit-r.ensures) c.in-Accepted.is
     c.list.ensures

@@ -8,24 +8,23 @@ use Rattle.routes.proofs.Asking.{admitted-as, admitted-answerable}
 use Rattle.routes.proofs.Giving.{pairs-refused, pairs-answered}
 use lib.ListN.{length}
 use Rattle.routes.proofs.pairs.Goals as goal
+use Rattle.routes.proofs.pairs.Goals.{Start}
 
--- `asked`: what is lent
+-- what is lent
+abbrev asked : Start → Asked
+asked c = let a = c.args in asked_by a.parents.now a.label.now a.tour.now a.lift.now a.order.now a.work.now a.question.now a.answer.now
+
 pub returns-in_default : goal.returns-in_default
 returns-in_default c =
-    let asked : (Asked) = (let a = c.args in asked_by a.parents.now a.label.now a.tour.now a.lift.now a.order.now a.work.now a.question.now a.answer.now) in
-    pairs-refused c.args.route asked (admitted-as asked c.pairs_unfit-unfit.ensures c.admit-r.ensures) c.in_default.is
+    pairs-refused c.args.route (asked (goal.at.returns-in_default c).Start) (admitted-as (asked (goal.at.returns-in_default c).Start) c.pairs_unfit-unfit.ensures c.admit-r.ensures) c.in_default.is
 
--- `asked`: what is lent
 pub pairs-requires : goal.pairs-requires
 pairs-requires c =
-    let asked : (Asked) = (let a = c.args in asked_by a.parents.now a.label.now a.tour.now a.lift.now a.order.now a.work.now a.question.now a.answer.now) in
-    let ready = admitted-answerable asked _ c.admit-r.ensures c.in-Accepted.is in
+    let ready = admitted-answerable (asked (goal.at.pairs-requires c).Start) _ c.admit-r.ensures c.in-Accepted.is in
     let (_, cells) = pairs-fit (length c.args.question.now) (length c.args.answer.now) (sym c.pairs_unfit-unfit.ensures ∙ ready.owned.fits) in
     (ready.listed, cells, ready.owned.label, ready.owned.tour, ready.owned.lift)
 
--- `asked`: what is lent
 pub returns : goal.returns
 returns c =
-    let asked : (Asked) = (let a = c.args in asked_by a.parents.now a.label.now a.tour.now a.lift.now a.order.now a.work.now a.question.now a.answer.now) in
-    pairs-answered c.args.route asked (admitted-as asked c.pairs_unfit-unfit.ensures c.admit-r.ensures)
+    pairs-answered c.args.route (asked (goal.at.returns c).Start) (admitted-as (asked (goal.at.returns c).Start) c.pairs_unfit-unfit.ensures c.admit-r.ensures)
     c.in-Accepted.is c.pairs.ensures

@@ -9,6 +9,14 @@ use Rattle.tree.proofs.Branches.{branch-itself, branch-is}
 use Rattle.rules.proofs.TourCells.{Visited, visited}
 use Rattle.rules.proofs.TourBranches.{back_inside}
 use Rattle.rules.proofs.branch.Goals as goal
+use Rattle.rules.proofs.branch.Goals.{After-back-at}
+
+-- the node that is visited before
+node-before : (c : After-back-at) → Visited c.args.parents.now c.args.tour.now (c.back-at.result - 1)
+node-before c =
+    let p = c.requires in
+    let t = p.0.tree in
+    visited t p.4 (omega (arith, back_inside t p.1 p.2 c.back-at.ensures))
 
 pub returns-then-x-c : goal.returns-then-x-c
 returns-then-x-c c =
@@ -20,28 +28,14 @@ back-at-requires c =
     let p = c.requires in
     (record { small = p.0; node = p.1; carries = p.2; other = c.if-x-c.false }, p.3, p.4)
 
--- `node-before`: the node that is visited before
 pub returns : goal.returns
 returns c =
-    let node-before : (let a = c.args in Visited a.parents.now a.tour.now (c.back-at.result - 1)) = (let p = c.requires in
-    let t = p.0.tree in
-    visited t p.4 (omega (arith, back_inside t p.1 p.2 c.back-at.ensures))) in
     let p = c.requires in
-    let d = node-before in
+    let d = node-before (goal.at.returns c).After-back-at in
     record { is = d.is ∙ branch-is p.0.tree p.1 p.2 c.back-at.ensures.branch; below = d.node }
 
--- `node-before`: the node that is visited before
 pub offset_bounds-tour-at : goal.offset_bounds-tour-at
-offset_bounds-tour-at c =
-    let node-before : (let a = c.args in Visited a.parents.now a.tour.now (c.back-at.result - 1)) = (let p = c.requires in
-    let t = p.0.tree in
-    visited t p.4 (omega (arith, back_inside t p.1 p.2 c.back-at.ensures))) in
-    let d = node-before in omega (arith, d.room)
+offset_bounds-tour-at c = let d = node-before c in omega (arith, d.room)
 
--- `node-before`: the node that is visited before
 pub bounds-tour-at : goal.bounds-tour-at
-bounds-tour-at c =
-    let node-before : (let a = c.args in Visited a.parents.now a.tour.now (c.back-at.result - 1)) = (let p = c.requires in
-    let t = p.0.tree in
-    visited t p.4 (omega (arith, back_inside t p.1 p.2 c.back-at.ensures))) in
-    node-before.room
+bounds-tour-at c = (node-before (goal.at.bounds-tour-at c).After-back-at).room

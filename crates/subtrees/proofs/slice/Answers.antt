@@ -6,14 +6,19 @@ use Prim.Native.Nat.{◌+◌, ◌-◌}
 use mathlib.Core.Path.{◌≡◌, refl, ap}
 use Rattle.tree.specs.Verdict.{start_of, count_of}
 use Rattle.subtrees.proofs.slice.Goals as goal
+use Rattle.subtrees.proofs.slice.Goals.{In-At}
 
--- `start_is`: where the stretch that was found begins, and how many cells it has
+-- where the stretch that was found begins, and how many cells it has
+start_is : (c : In-At) → start_of c.args.found ≡ c.in-At.start
+start_is c = ap start_of c.in-At.is
+
+count-is : (c : In-At) → count_of c.args.found ≡ c.in-At.count
+count-is c = ap count_of c.in-At.is
+
 pub returns-in-At : goal.returns-in-At
 returns-in-At c =
-    let start_is : (start_of c.args.found ≡ c.in-At.start) = (ap start_of c.in-At.is) in
-    let count-is : (count_of c.args.found ≡ c.in-At.count) = (ap count_of c.in-At.is) in
-    let a = start_is in
-    let b = count-is in
+    let a = start_is (goal.at.returns-in-At c).In-At in
+    let b = count-is (goal.at.returns-in-At c).In-At in
     let start = c.in-At.start in
     let count = c.in-At.count in
     let same : start + count - start ≡ count = omega arith in

@@ -5,15 +5,16 @@ use mathlib.Core.Path.{refl}
 use Rattle.tree.specs.Tables.{Lent, lent_by}
 use Rattle.subtrees.proofs.Locating.{locate-within, subtree-given}
 use Rattle.subtrees.proofs.subtree.Goals as goal
+use Rattle.subtrees.proofs.subtree.Goals.{Start}
 
--- `lent`: what is lent
+-- what is lent
+abbrev lent : Start → Lent
+lent c = let a = c.args in lent_by a.parents.now a.label.now a.tour.now a.lift.now a.order.now
+
 pub slice-requires : goal.slice-requires
 slice-requires c =
-    let lent : (Lent) = (let a = c.args in lent_by a.parents.now a.label.now a.tour.now a.lift.now a.order.now) in
-    locate-within lent c.args.work.now c.args.part c.args.order refl c.locate-found.ensures
+    locate-within (lent (goal.at.slice-requires c).Start) c.args.work.now c.args.part c.args.order refl c.locate-found.ensures
 
--- `lent`: what is lent
 pub returns : goal.returns
 returns c =
-    let lent : (Lent) = (let a = c.args in lent_by a.parents.now a.label.now a.tour.now a.lift.now a.order.now) in
-    subtree-given lent c.args.work.now c.args.part c.args.order refl c.locate-found.ensures c.slice.ensures
+    subtree-given (lent (goal.at.returns c).Start) c.args.work.now c.args.part c.args.order refl c.locate-found.ensures c.slice.ensures

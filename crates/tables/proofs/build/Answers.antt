@@ -7,32 +7,31 @@ use Rattle.tables.proofs.Lending.{found-tested, found-work, tested-fits, build-r
 use Rattle.tree.specs.Tables.{Lent, lent_by}
 use Rattle.tree.specs.Lending.{unfit_of}
 use Rattle.tables.proofs.build.Goals as goal
+use Rattle.tables.proofs.build.Goals.{Start}
 
--- `lent`: what is lent
+-- what is lent
+abbrev lent : Start → Lent
+lent c = let a = c.args in lent_by a.parents.now a.label.now a.tour.now a.lift.now a.order.now
+
+-- the lowest buffer that does not fit
+abbrev unfit : Start → ℕ
+unfit s = unfit_of (lent s) s.args.work.now 0
+
 pub admit-r-requires : goal.admit-r-requires
 admit-r-requires c =
-    let lent : (Lent) = (let a = c.args in lent_by a.parents.now a.label.now a.tour.now a.lift.now a.order.now) in
-    found-work lent c.args.work.now 0 _ c.first_unfit-unfit.ensures
+    found-work (lent (goal.at.admit-r-requires c).Start) c.args.work.now 0 _ c.first_unfit-unfit.ensures
 
--- `lent`: what is lent
--- `unfit`: the lowest buffer that does not fit
 pub returns-in_default : goal.returns-in_default
 returns-in_default c =
-    let lent : (Lent) = (let a = c.args in lent_by a.parents.now a.label.now a.tour.now a.lift.now a.order.now) in
-    let unfit : (ℕ) = (unfit_of lent c.args.work.now 0) in
-    build-refused lent _ (found-tested c.args.parents.now unfit _ c.first_unfit-unfit.ensures c.admit-r.ensures) c.in_default.is
+    build-refused (lent (goal.at.returns-in_default c).Start) _ (found-tested c.args.parents.now (unfit (goal.at.returns-in_default c).Start) _ c.first_unfit-unfit.ensures c.admit-r.ensures) c.in_default.is
 
 pub tables-requires : goal.tables-requires
 tables-requires c =
     tested-fits _ _ _ 0 _ c.first_unfit-unfit.ensures c.admit-r.ensures c.in-Accepted.is c.admit-r.auto.work
 
--- `lent`: what is lent
--- `unfit`: the lowest buffer that does not fit
 pub returns : goal.returns
 returns c =
-    let lent : (Lent) = (let a = c.args in lent_by a.parents.now a.label.now a.tour.now a.lift.now a.order.now) in
-    let unfit : (ℕ) = (unfit_of lent c.args.work.now 0) in
     let yes = c.in-Accepted.is in
-    let fits = tested-fits lent c.args.work.now c.args.work.now 0 _ c.first_unfit-unfit.ensures c.admit-r.ensures yes refl in
-    build-accepted lent _ (found-tested c.args.parents.now unfit _ c.first_unfit-unfit.ensures c.admit-r.ensures) yes fits.ready.room
+    let fits = tested-fits (lent (goal.at.returns c).Start) c.args.work.now c.args.work.now 0 _ c.first_unfit-unfit.ensures c.admit-r.ensures yes refl in
+    build-accepted (lent (goal.at.returns c).Start) _ (found-tested c.args.parents.now (unfit (goal.at.returns c).Start) _ c.first_unfit-unfit.ensures c.admit-r.ensures) yes fits.ready.room
     c.tables.ensures

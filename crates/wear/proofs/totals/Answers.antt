@@ -12,48 +12,44 @@ use Rattle.tables.specs.Check.{OrderGives}
 use Rattle.wear.specs.Totals.{count_limit, totals_of}
 use Rattle.wear.proofs.Giving.{Granted, totals-refused, totals-granted, totals-filled}
 use Rattle.wear.proofs.totals.Goals as goal
+use Rattle.wear.proofs.totals.Goals.{In-Accepted, After-admit_bottom_up-r}
 
--- `tested`: the answer to the tests, of the call's own buffers
-pub returns-in_default : goal.returns-in_default
-returns-in_default c =
-    let tested : (let a = c.args in
-    OrderGives a.parents.now (first_unfit (wear_fits (length a.parents.now) (length a.counts.now) (length a.totals.now))) a.work.now
-    c.admit_bottom_up-r.result c.admit_bottom_up-r.new.work) = (let a = c.args in
+-- the answer to the tests, of the call's own buffers
+tested : (c : After-admit_bottom_up-r) →
+    OrderGives c.args.parents.now (first_unfit (wear_fits (length c.args.parents.now) (length c.args.counts.now) (length c.args.totals.now))) c.args.work.now
+    c.admit_bottom_up-r.result c.admit_bottom_up-r.new.work
+tested c =
+    let a = c.args in
     subst (λ (u : ℕ). OrderGives a.parents.now u a.work.now c.admit_bottom_up-r.result c.admit_bottom_up-r.new.work)
+    c.first_unfit-unfit.ensures c.admit_bottom_up-r.ensures
+
+-- what is known of an accepted call
+grants : (c : In-Accepted) → Granted c.args.parents.now c.args.work.now c.args.counts.now c.args.totals.now
+grants c =
+    let tested :
+    (OrderGives c.args.parents.now (first_unfit (wear_fits (length c.args.parents.now) (length c.args.counts.now) (length c.args.totals.now))) c.args.work.now
+    c.admit_bottom_up-r.result c.admit_bottom_up-r.new.work) =
+    (subst (λ (u : ℕ). OrderGives c.args.parents.now u c.args.work.now c.admit_bottom_up-r.result c.admit_bottom_up-r.new.work)
     c.first_unfit-unfit.ensures c.admit_bottom_up-r.ensures) in
     let a = c.args in
-    totals-refused a.parents.now a.work.now a.counts.now a.totals.now tested c.in_default.is
+    totals-granted a.parents.now a.work.now a.counts.now a.totals.now tested c.in-Accepted.is
 
--- `tested`: the answer to the tests, of the call's own buffers
--- `grants`: what is known of an accepted call
+pub returns-in_default : goal.returns-in_default
+returns-in_default c =
+    let a = c.args in
+    totals-refused a.parents.now a.work.now a.counts.now a.totals.now (tested (goal.at.returns-in_default c).After-admit_bottom_up-r) c.in_default.is
+
 pub widen-requires : goal.widen-requires
-widen-requires c =
-    let tested : (let a = c.args in
-    OrderGives a.parents.now (first_unfit (wear_fits (length a.parents.now) (length a.counts.now) (length a.totals.now))) a.work.now
-    c.admit_bottom_up-r.result c.admit_bottom_up-r.new.work) = (let a = c.args in
-    subst (λ (u : ℕ). OrderGives a.parents.now u a.work.now c.admit_bottom_up-r.result c.admit_bottom_up-r.new.work)
-    c.first_unfit-unfit.ensures c.admit_bottom_up-r.ensures) in
-    let grants : (let a = c.args in Granted a.parents.now a.work.now a.counts.now a.totals.now) = (let a = c.args in
-    totals-granted a.parents.now a.work.now a.counts.now a.totals.now tested c.in-Accepted.is) in
-    let g = grants in omega arith
+widen-requires c = let g = grants (goal.at.widen-requires c).In-Accepted in omega arith
 
--- `tested`: the answer to the tests, of the call's own buffers
--- `grants`: what is known of an accepted call
 pub add_up-requires : goal.add_up-requires
 add_up-requires c =
-    let tested : (let a = c.args in
-    OrderGives a.parents.now (first_unfit (wear_fits (length a.parents.now) (length a.counts.now) (length a.totals.now))) a.work.now
-    c.admit_bottom_up-r.result c.admit_bottom_up-r.new.work) = (let a = c.args in
-    subst (λ (u : ℕ). OrderGives a.parents.now u a.work.now c.admit_bottom_up-r.result c.admit_bottom_up-r.new.work)
-    c.first_unfit-unfit.ensures c.admit_bottom_up-r.ensures) in
-    let grants : (let a = c.args in Granted a.parents.now a.work.now a.counts.now a.totals.now) = (let a = c.args in
-    totals-granted a.parents.now a.work.now a.counts.now a.totals.now tested c.in-Accepted.is) in
-    let g = grants in
+    let g = grants (goal.at.add_up-requires c).In-Accepted in
     let same = c.admit_bottom_up-r.auto.work in
     let wide = c.widen.ensures in
-    let edges = tested.edges (sym tested.outcome ∙ ap verdict_of c.in-Accepted.is) in
+    let edges = (tested (goal.at.add_up-requires c).After-admit_bottom_up-r).edges (sym (tested (goal.at.add_up-requires c).After-admit_bottom_up-r).outcome ∙ ap verdict_of c.in-Accepted.is) in
     let ready = g.ready in
-    let counted = g.count_cells_lem in (
+    let counted = g.count_length in (
       record { tree = ready.tree; most = ready.small },
       edges,
       omega arith,
@@ -61,15 +57,9 @@ add_up-requires c =
       λ v h. subst (λ (l : List ℕ). get_or l v 0 ≤ count_limit) (sym wide.0) (wide.1 v (omega arith)),
     )
 
--- `tested`: the answer to the tests, of the call's own buffers
 pub returns : goal.returns
 returns c =
-    let tested : (let a = c.args in
-    OrderGives a.parents.now (first_unfit (wear_fits (length a.parents.now) (length a.counts.now) (length a.totals.now))) a.work.now
-    c.admit_bottom_up-r.result c.admit_bottom_up-r.new.work) = (let a = c.args in
-    subst (λ (u : ℕ). OrderGives a.parents.now u a.work.now c.admit_bottom_up-r.result c.admit_bottom_up-r.new.work)
-    c.first_unfit-unfit.ensures c.admit_bottom_up-r.ensures) in
     let a = c.args in
     let same = c.admit_bottom_up-r.auto.work in
-    totals-filled a.parents.now a.work.now a.counts.now a.totals.now tested c.in-Accepted.is
+    totals-filled a.parents.now a.work.now a.counts.now a.totals.now (tested (goal.at.returns c).After-admit_bottom_up-r) c.in-Accepted.is
     (c.add_up.ensures ∙ ap (totals_of a.parents.now) c.widen.ensures.0) (c.clear.ensures ∙ ap (λ k. replicate k 0) same)

@@ -3,58 +3,43 @@
 use Prim.Native.Nat.{ℕ, ◌+◌, ◌<◌}
 use native.Mathlib.Omega.{arith}
 use mathlib.Core.Path.{◌≡◌, ap, ◌∙◌}
+use borrow.Author.Rules.{rules}
 use lib.ListN.{length, get_or}
 use Rattle.leaves.specs.Leaves.{entry_at}
 use Rattle.leaves.proofs.Waits.{waiting-first, waiting-later, waiting-part, entry_kept, took-both}
 use Rattle.leaves.proofs.take.eight.Goals as goal
+use Rattle.leaves.proofs.take.eight.Goals.{Start}
 
--- `read`: a part that waits can be read
+-- a part that waits can be read
+read : (c : Start) → (i : ℕ) → i < c.args.at + 8 → (i < length c.args.work.now) × (get_or c.args.work.now i 0 < length c.args.parents.now)
+read c i h = let f = waiting-part c.requires i h in (f.0, f.1)
+
 pub entry-p0-requires : goal.entry-p0-requires
-entry-p0-requires c =
-    let read : ((i : ℕ) → i < c.args.at + 8 → (i < length c.args.work.now) × (get_or c.args.work.now i 0 < length c.args.parents.now)) = (λ i h. let f = waiting-part c.requires i h in (f.0, f.1)) in
-    read _ (omega arith)
+entry-p0-requires c = read (goal.at.entry-p0-requires c).Start _ (omega arith)
 
--- `read`: a part that waits can be read
 pub entry-p1-requires : goal.entry-p1-requires
-entry-p1-requires c =
-    let read : ((i : ℕ) → i < c.args.at + 8 → (i < length c.args.work.now) × (get_or c.args.work.now i 0 < length c.args.parents.now)) = (λ i h. let f = waiting-part c.requires i h in (f.0, f.1)) in
-    read _ (omega arith)
+entry-p1-requires c = read (goal.at.entry-p1-requires c).Start _ (omega arith)
 
--- `read`: a part that waits can be read
 pub entry-p2-requires : goal.entry-p2-requires
-entry-p2-requires c =
-    let read : ((i : ℕ) → i < c.args.at + 8 → (i < length c.args.work.now) × (get_or c.args.work.now i 0 < length c.args.parents.now)) = (λ i h. let f = waiting-part c.requires i h in (f.0, f.1)) in
-    read _ (omega arith)
+entry-p2-requires c = read (goal.at.entry-p2-requires c).Start _ (omega arith)
 
--- `read`: a part that waits can be read
 pub entry-p3-requires : goal.entry-p3-requires
-entry-p3-requires c =
-    let read : ((i : ℕ) → i < c.args.at + 8 → (i < length c.args.work.now) × (get_or c.args.work.now i 0 < length c.args.parents.now)) = (λ i h. let f = waiting-part c.requires i h in (f.0, f.1)) in
-    read _ (omega arith)
+entry-p3-requires c = read (goal.at.entry-p3-requires c).Start _ (omega arith)
 
--- `read`: a part that waits can be read
 pub entry-p4-requires : goal.entry-p4-requires
-entry-p4-requires c =
-    let read : ((i : ℕ) → i < c.args.at + 8 → (i < length c.args.work.now) × (get_or c.args.work.now i 0 < length c.args.parents.now)) = (λ i h. let f = waiting-part c.requires i h in (f.0, f.1)) in
-    read _ (omega arith)
+entry-p4-requires c = read (goal.at.entry-p4-requires c).Start _ (omega arith)
 
--- `read`: a part that waits can be read
 pub entry-p5-requires : goal.entry-p5-requires
 entry-p5-requires c =
-    let read : ((i : ℕ) → i < c.args.at + 8 → (i < length c.args.work.now) × (get_or c.args.work.now i 0 < length c.args.parents.now)) = (λ i h. let f = waiting-part c.requires i h in (f.0, f.1)) in
-    read _ (omega arith)
+    read (goal.at.entry-p5-requires c).Start _ (omega arith)
 
--- `read`: a part that waits can be read
 pub entry-p6-requires : goal.entry-p6-requires
 entry-p6-requires c =
-    let read : ((i : ℕ) → i < c.args.at + 8 → (i < length c.args.work.now) × (get_or c.args.work.now i 0 < length c.args.parents.now)) = (λ i h. let f = waiting-part c.requires i h in (f.0, f.1)) in
-    read _ (omega arith)
+    read (goal.at.entry-p6-requires c).Start _ (omega arith)
 
--- `read`: a part that waits can be read
 pub entry-p7-requires : goal.entry-p7-requires
 entry-p7-requires c =
-    let read : ((i : ℕ) → i < c.args.at + 8 → (i < length c.args.work.now) × (get_or c.args.work.now i 0 < length c.args.parents.now)) = (λ i h. let f = waiting-part c.requires i h in (f.0, f.1)) in
-    read _ (omega arith)
+    read (goal.at.entry-p7-requires c).Start _ (omega arith)
 
 pub four-half-requires : goal.four-half-requires
 four-half-requires c = (

@@ -1,23 +1,27 @@
 -- `leaves::take::take_eights` meets its contract: the place is a multiple of eight.
 -- Assumes nothing.
-use Prim.Native.Nat.{◌*◌, ◌/◌}
+use Prim.Native.Nat.{◌-◌, ◌*◌, ◌/◌, ◌%◌}
 use native.Mathlib.Omega.{arith}
 use mathlib.Core.Path.{◌≡◌, refl, ◌∙◌}
-use Rattle.leaves.specs.Leaves.{Waiting}
+use lib.ListN.{length}
+use Rattle.leaves.specs.Leaves.{Taking, Waiting}
 use Rattle.leaves.proofs.Naming.{wooded-same}
 use Rattle.leaves.proofs.Taken.{found_below}
 use Rattle.leaves.proofs.Waits.{waiting-part}
 use Rattle.leaves.proofs.take.take_eights.Goals as goal
+use Rattle.leaves.proofs.take.take_eights.Goals.{After-eight-arg-1}
+
+-- eight parts wait
+eight-wait : (c : After-eight-arg-1) → Waiting c.args.parents.now c.loop-at.work c.loop-at.at 8 c.loop-at.found
+eight-wait c =
+    let l = c.loop-at.invariant in
+    record { wooded = wooded-same c.requires.0 l.1; taking = l.2; wait = c.loop-at-test.true }
 
 pub loop-at-init : goal.loop-at-init
 loop-at-init c = (refl, refl, c.requires.1)
 
--- `eight-wait`: eight parts wait
 pub eight-found-requires : goal.eight-found-requires
-eight-found-requires c =
-    let eight-wait : (let l = c.loop-at in Waiting c.args.parents.now l.work l.at 8 l.found) = (let l = c.loop-at.invariant in
-    record { wooded = wooded-same c.requires.0 l.1; taking = l.2; wait = c.loop-at-test.true }) in
-    eight-wait
+eight-found-requires c = eight-wait c
 
 pub loop-at-preserved : goal.loop-at-preserved
 loop-at-preserved c =
@@ -39,11 +43,8 @@ overflow_add-at c =
     let within = l.2.within in
     omega arith
 
--- `eight-wait`: eight parts wait
 pub loop-at-smaller : goal.loop-at-smaller
 loop-at-smaller c =
-    let eight-wait : (let l = c.loop-at in Waiting c.args.parents.now l.work l.at 8 l.found) = (let l = c.loop-at.invariant in
-    record { wooded = wooded-same c.requires.0 l.1; taking = l.2; wait = c.loop-at-test.true }) in
-    let f = waiting-part eight-wait c.loop-at.at (omega arith) in
+    let f = waiting-part (eight-wait (goal.at.loop-at-smaller c).After-eight-arg-1) c.loop-at.at (omega arith) in
     let wait = c.loop-at-test.true in
     omega arith

@@ -1,26 +1,42 @@
 -- `leaves::take::take_rest` meets its contract: the first part in the order that is not taken is taken, and the one after it was read beforehand.
 -- Assumes nothing.
-use Prim.Native.Nat.{ℕ, ◌+◌, ◌<◌}
+use Prim.Native.Nat.{ℕ, ◌+◌, ◌-◌, ◌≤◌, ◌<◌}
 use native.Mathlib.Omega.{arith}
 use mathlib.Core.Path.{◌≡◌, refl, ap, ◌∙◌}
+use borrow.Author.Rules.{rules}
 use lib.ListN.{length, get_or}
-use Rattle.leaves.specs.Leaves.{Waiting}
+use Rattle.leaves.specs.Leaves.{Taking, Waiting}
 use Rattle.leaves.proofs.Naming.{wooded-same}
 use Rattle.leaves.proofs.Taken.{found_below}
-use Rattle.leaves.proofs.Waits.{next-is, waiting-part}
+use Rattle.leaves.proofs.Waits.{NextIs, next-is, waiting-part}
 use Rattle.leaves.proofs.take.take_rest.Goals as goal
+use Rattle.leaves.proofs.take.take_rest.Goals.{In-loop-at, After-shared_slice_known-in-loop-at-1}
+
+-- a part waits
+one-waits : (c : After-shared_slice_known-in-loop-at-1) → Waiting c.args.parents.now c.loop-at.work c.loop-at.at 1 c.loop-at.found
+one-waits c =
+    let l = c.loop-at.invariant in
+    let wait = c.loop-at-test.true in
+    record { wooded = wooded-same c.requires.0 l.0; taking = l.1; wait = omega arith }
+
+-- it is the part at hand; there are few, and cells behind them
+here : (c : After-shared_slice_known-in-loop-at-1) →
+    (c.loop-at.v < length c.args.parents.now) × (c.loop-at.at + 1 < length c.loop-at.work) × (c.loop-at.at < length c.args.parents.now) × (c.loop-at.at < 16384)
+here c =
+    let l = c.loop-at in
+    let f = waiting-part (one-waits c) l.at (omega arith) in
+    let is = l.invariant.2 c.loop-at-test.true in
+    let room = (one-waits c).wooded.room in
+    let wait = c.loop-at-test.true in
+    (omega arith, omega arith, omega arith, omega arith)
 
 pub loop-at-init : goal.loop-at-init
 loop-at-init c = (refl, c.requires.1, λ _. refl)
 
--- `one-waits`: a part waits
 pub one-found-requires : goal.one-found-requires
 one-found-requires c =
-    let one-waits : (let l = c.loop-at in Waiting c.args.parents.now l.work l.at 1 l.found) = (let l = c.loop-at.invariant in
-    let wait = c.loop-at-test.true in
-    record { wooded = wooded-same c.requires.0 l.0; taking = l.1; wait = omega arith }) in
     let l = c.loop-at in
-    (one-waits, ap (λ (x : ℕ). get_or c.args.parents.now x 0) (l.invariant.2 c.loop-at-test.true))
+    (one-waits (goal.at.one-found-requires c).After-shared_slice_known-in-loop-at-1, ap (λ (x : ℕ). get_or c.args.parents.now x 0) (l.invariant.2 c.loop-at-test.true))
 
 pub loop-at-preserved : goal.loop-at-preserved
 loop-at-preserved c =
@@ -47,18 +63,5 @@ bounds-work-at c =
     let room = c.requires.0.room in
     omega arith
 
--- `one-waits`: a part waits
--- `here`: it is the part at hand; there are few, and cells behind them
 pub loop-at-smaller : goal.loop-at-smaller
-loop-at-smaller c =
-    let one-waits : (let l = c.loop-at in Waiting c.args.parents.now l.work l.at 1 l.found) = (let l = c.loop-at.invariant in
-    let wait = c.loop-at-test.true in
-    record { wooded = wooded-same c.requires.0 l.0; taking = l.1; wait = omega arith }) in
-    let here : (let l = c.loop-at in
-    (l.v < length c.args.parents.now) × (l.at + 1 < length l.work) × (l.at < length c.args.parents.now) × (l.at < 16384)) = (let l = c.loop-at in
-    let f = waiting-part one-waits l.at (omega arith) in
-    let is = l.invariant.2 c.loop-at-test.true in
-    let room = one-waits.wooded.room in
-    let wait = c.loop-at-test.true in
-    (omega arith, omega arith, omega arith, omega arith)) in
-    let f = here in omega arith
+loop-at-smaller c = let f = here (goal.at.loop-at-smaller c).After-shared_slice_known-in-loop-at-1 in omega arith

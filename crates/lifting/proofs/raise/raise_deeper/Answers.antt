@@ -10,73 +10,57 @@ use Rattle.tree.specs.Routes.{level_at}
 use Rattle.lifting.specs.Stored.{row}
 use Rattle.lifting.proofs.Reading.{Level, Lift, levels, lifts}
 use Rattle.lifting.proofs.raise.raise_deeper.Goals as goal
+use Rattle.lifting.proofs.raise.raise_deeper.Goals.{Start}
+
+abbrev sheet : Start → Lent
+sheet c = own c.args.parents.now
+
+heights : (c : Start) → Level c.args.parents.now c.args.label.now c.args.x × Level c.args.parents.now c.args.label.now c.args.y
+heights c = levels c.requires.0 c.requires.1
+
+cells : (c : Start) → Lift c.args.parents.now c.args.lift.now c.args.k c.args.x × Lift c.args.parents.now c.args.lift.now c.args.k c.args.y
+cells c = lifts c.requires.0 c.requires.2 c.requires.3
 
 pub returns-then-label-n : goal.returns-then-label-n
 returns-then-label-n c =
-    let sheet : (Lent) = (own c.args.parents.now) in
-    let heights : (let a = c.args in Level a.parents.now a.label.now a.x × Level a.parents.now a.label.now a.y) = (levels c.requires.0 c.requires.1) in
-    let cells : (let a = c.args in Lift a.parents.now a.lift.now a.k a.x × Lift a.parents.now a.lift.now a.k a.y) = (lifts c.requires.0 c.requires.2 c.requires.3) in
-    let (x, y) = heights in
-    let l = cells.0 in
-    let deeper : level_at sheet c.args.y < level_at sheet c.args.x = omega (arith, c.if-label-n.true) in
+    let (x, y) = heights (goal.at.returns-then-label-n c).Start in
+    let l = (cells (goal.at.returns-then-label-n c).Start).0 in
+    let deeper : level_at (sheet (goal.at.returns-then-label-n c).Start) c.args.y < level_at (sheet (goal.at.returns-then-label-n c).Start) c.args.x = omega (arith, c.if-label-n.true) in
     (rw (lt-ltb _ _ deeper) (ap₂ row l.cell refl), record { small = c.requires.0.small; left = l.part; right = c.requires.0.right })
 
 pub returns : goal.returns
 returns c =
-    let sheet : (Lent) = (own c.args.parents.now) in
-    let heights : (let a = c.args in Level a.parents.now a.label.now a.x × Level a.parents.now a.label.now a.y) = (levels c.requires.0 c.requires.1) in
-    let cells : (let a = c.args in Lift a.parents.now a.lift.now a.k a.x × Lift a.parents.now a.lift.now a.k a.y) = (lifts c.requires.0 c.requires.2 c.requires.3) in
-    let (x, y) = heights in
-    let l = cells.1 in
-    let deeper : level_at sheet c.args.x ≤ level_at sheet c.args.y = omega (arith, c.if-label-n.false) in
+    let (x, y) = heights (goal.at.returns c).Start in
+    let l = (cells (goal.at.returns c).Start).1 in
+    let deeper : level_at (sheet (goal.at.returns c).Start) c.args.x ≤ level_at (sheet (goal.at.returns c).Start) c.args.y = omega (arith, c.if-label-n.false) in
     (rw (le-ltb _ _ deeper) (ap₂ row refl l.cell), record { small = c.requires.0.small; left = c.requires.0.left; right = l.part })
 
 pub bounds-label-n : goal.bounds-label-n
-bounds-label-n c =
-    let heights : (let a = c.args in Level a.parents.now a.label.now a.x × Level a.parents.now a.label.now a.y) = (levels c.requires.0 c.requires.1) in
-    omega (arith, heights)
+bounds-label-n c = omega (arith, heights (goal.at.bounds-label-n c).Start)
 
 pub bounds-label-n-2 : goal.bounds-label-n-2
-bounds-label-n-2 c =
-    let heights : (let a = c.args in Level a.parents.now a.label.now a.x × Level a.parents.now a.label.now a.y) = (levels c.requires.0 c.requires.1) in
-    omega (arith, heights)
+bounds-label-n-2 c = omega (arith, heights (goal.at.bounds-label-n-2 c).Start)
 
 pub overflow_mul-result : goal.overflow_mul-result
-overflow_mul-result c =
-    let cells : (let a = c.args in Lift a.parents.now a.lift.now a.k a.x × Lift a.parents.now a.lift.now a.k a.y) = (lifts c.requires.0 c.requires.2 c.requires.3) in
-    omega (arith, cells)
+overflow_mul-result c = omega (arith, cells (goal.at.overflow_mul-result c).Start)
 
 pub overflow_add-result : goal.overflow_add-result
-overflow_add-result c =
-    let cells : (let a = c.args in Lift a.parents.now a.lift.now a.k a.x × Lift a.parents.now a.lift.now a.k a.y) = (lifts c.requires.0 c.requires.2 c.requires.3) in
-    omega (arith, cells)
+overflow_add-result c = omega (arith, cells (goal.at.overflow_add-result c).Start)
 
 pub offset_bounds-lift-k : goal.offset_bounds-lift-k
-offset_bounds-lift-k c =
-    let cells : (let a = c.args in Lift a.parents.now a.lift.now a.k a.x × Lift a.parents.now a.lift.now a.k a.y) = (lifts c.requires.0 c.requires.2 c.requires.3) in
-    omega (arith, cells)
+offset_bounds-lift-k c = omega (arith, cells (goal.at.offset_bounds-lift-k c).Start)
 
 pub bounds-lift-k : goal.bounds-lift-k
-bounds-lift-k c =
-    let cells : (let a = c.args in Lift a.parents.now a.lift.now a.k a.x × Lift a.parents.now a.lift.now a.k a.y) = (lifts c.requires.0 c.requires.2 c.requires.3) in
-    omega (arith, cells)
+bounds-lift-k c = omega (arith, cells (goal.at.bounds-lift-k c).Start)
 
 pub overflow_mul-result-2 : goal.overflow_mul-result-2
-overflow_mul-result-2 c =
-    let cells : (let a = c.args in Lift a.parents.now a.lift.now a.k a.x × Lift a.parents.now a.lift.now a.k a.y) = (lifts c.requires.0 c.requires.2 c.requires.3) in
-    omega (arith, cells)
+overflow_mul-result-2 c = omega (arith, cells (goal.at.overflow_mul-result-2 c).Start)
 
 pub overflow_add-result-2 : goal.overflow_add-result-2
-overflow_add-result-2 c =
-    let cells : (let a = c.args in Lift a.parents.now a.lift.now a.k a.x × Lift a.parents.now a.lift.now a.k a.y) = (lifts c.requires.0 c.requires.2 c.requires.3) in
-    omega (arith, cells)
+overflow_add-result-2 c = omega (arith, cells (goal.at.overflow_add-result-2 c).Start)
 
 pub offset_bounds-lift-k-2 : goal.offset_bounds-lift-k-2
-offset_bounds-lift-k-2 c =
-    let cells : (let a = c.args in Lift a.parents.now a.lift.now a.k a.x × Lift a.parents.now a.lift.now a.k a.y) = (lifts c.requires.0 c.requires.2 c.requires.3) in
-    omega (arith, cells)
+offset_bounds-lift-k-2 c = omega (arith, cells (goal.at.offset_bounds-lift-k-2 c).Start)
 
 pub bounds-lift-k-2 : goal.bounds-lift-k-2
-bounds-lift-k-2 c =
-    let cells : (let a = c.args in Lift a.parents.now a.lift.now a.k a.x × Lift a.parents.now a.lift.now a.k a.y) = (lifts c.requires.0 c.requires.2 c.requires.3) in
-    omega (arith, cells)
+bounds-lift-k-2 c = omega (arith, cells (goal.at.bounds-lift-k-2 c).Start)

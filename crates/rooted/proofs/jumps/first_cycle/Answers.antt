@@ -8,6 +8,13 @@ use lib.ListN.{length}
 use Rattle.rooted.specs.Jumps.{Links}
 use Rattle.rooted.proofs.Jumping.{links-start, links-twice, links-less, no-cycle}
 use Rattle.rooted.proofs.jumps.first_cycle.Goals as goal
+use Rattle.rooted.proofs.jumps.first_cycle.Goals.{After-jump_rising}
+
+-- the links after a pass in rising order
+risen : (c : After-jump_rising) →
+    Links c.args.parents.now c.jump_rising.new.work
+    c.args.root (2 * c.loop-steps.steps)
+risen c = links-twice c.jump_rising.auto.work c.loop-steps.invariant.2 c.jump_rising.ensures
 
 pub loop-steps-init : goal.loop-steps-init
 loop-steps-init c =
@@ -21,30 +28,20 @@ pub returns-then-jump_rising-eq0 : goal.returns-then-jump_rising-eq0
 returns-then-jump_rising-eq0 c =
     no-cycle c.loop-steps.invariant.2 c.jump_rising.ensures c.if-jump_rising-eq0.true
 
--- `risen`: the links after a pass in rising order
 pub jump_falling-requires : goal.jump_falling-requires
-jump_falling-requires c =
-    let risen : (Links c.args.parents.now c.jump_rising.new.work
-    c.args.root (2 * c.loop-steps.steps)) = (links-twice c.jump_rising.auto.work c.loop-steps.invariant.2 c.jump_rising.ensures) in
-    links-less zero-le risen
+jump_falling-requires c = links-less zero-le (risen (goal.at.jump_falling-requires c).After-jump_rising)
 
--- `risen`: the links after a pass in rising order
 pub returns-then-jump_falling-eq0 : goal.returns-then-jump_falling-eq0
 returns-then-jump_falling-eq0 c =
-    let risen : (Links c.args.parents.now c.jump_rising.new.work
-    c.args.root (2 * c.loop-steps.steps)) = (links-twice c.jump_rising.auto.work c.loop-steps.invariant.2 c.jump_rising.ensures) in
-    no-cycle risen c.jump_falling.ensures c.if-jump_falling-eq0.true
+    no-cycle (risen (goal.at.returns-then-jump_falling-eq0 c).After-jump_rising) c.jump_falling.ensures c.if-jump_falling-eq0.true
 
--- `risen`: the links after a pass in rising order
 pub loop-steps-preserved : goal.loop-steps-preserved
 loop-steps-preserved c =
-    let risen : (Links c.args.parents.now c.jump_rising.new.work
-    c.args.root (2 * c.loop-steps.steps)) = (links-twice c.jump_rising.auto.work c.loop-steps.invariant.2 c.jump_rising.ensures) in
     let down = c.jump_falling in
     let same = down.auto.work in (
       omega arith,
       same ∙ c.jump_rising.auto.work ∙ c.loop-steps.invariant.1,
-      links-less (omega arith) (links-twice same risen down.ensures),
+      links-less (omega arith) (links-twice same (risen (goal.at.loop-steps-preserved c).After-jump_rising) down.ensures),
     )
 
 pub first_unrooted-requires : goal.first_unrooted-requires

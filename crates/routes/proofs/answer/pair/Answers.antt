@@ -9,20 +9,17 @@ use Rattle.routes.specs.Rules.{rule_of}
 use Rattle.routes.proofs.Giving.{rule-carries}
 use Rattle.routes.proofs.Storing.{stored-by}
 use Rattle.routes.proofs.answer.pair.Goals as goal
+use Rattle.routes.proofs.answer.pair.Goals.{After-carrier-c}
 
--- `carries`: the carrier carries x and y
+-- the carrier carries x and y
+carries : (c : After-carrier-c) → Ancestor c.args.parents.now c.carrier-c.result c.args.x × Ancestor c.args.parents.now c.carrier-c.result c.args.y
+carries c = rule-carries c.args.route c.requires.0 c.carrier-c.ensures.is
+
 pub branch-left-requires : goal.branch-left-requires
-branch-left-requires c =
-    let carries : (let a = c.args in
-    Ancestor a.parents.now c.carrier-c.result a.x × Ancestor a.parents.now c.carrier-c.result a.y) = (rule-carries c.args.route c.requires.0 c.carrier-c.ensures.is) in
-    let p = c.requires in (p.0.small, p.0.left, carries.0, p.2, p.3)
+branch-left-requires c = let p = c.requires in (p.0.small, p.0.left, (carries c).0, p.2, p.3)
 
--- `carries`: the carrier carries x and y
 pub branch-right-requires : goal.branch-right-requires
-branch-right-requires c =
-    let carries : (let a = c.args in
-    Ancestor a.parents.now c.carrier-c.result a.x × Ancestor a.parents.now c.carrier-c.result a.y) = (rule-carries c.args.route c.requires.0 c.carrier-c.ensures.is) in
-    let p = c.requires in (p.0.small, p.0.right, carries.1, p.2, p.3)
+branch-right-requires c = let p = c.requires in (p.0.small, p.0.right, (carries (goal.at.branch-right-requires c).After-carrier-c).1, p.2, p.3)
 
 pub returns : goal.returns
 returns c =

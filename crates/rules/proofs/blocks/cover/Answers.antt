@@ -7,16 +7,19 @@ use borrow.Author.Rules.{rules}
 use Rattle.bits.proofs.Ones.{one_shifted}
 use Rattle.rules.proofs.TourCells.{Blocks, blocks}
 use Rattle.rules.proofs.blocks.cover.Goals as goal
+use Rattle.rules.proofs.blocks.cover.Goals.{After-log2-k}
 
--- `facts`: the two blocks, once the length of each is known; 1 shifted up by k is 2 ^ k
+-- the two blocks, once the length of each is known; 1 shifted up by k is 2 ^ k
+facts : (c : After-log2-k) →
+    Blocks c.args.parents.now c.args.tour.now c.args.i c.args.j c.log2-k.result (c.args.j + 1 - 1 * 2 ^ c.log2-k.result % 2 ^ 64)
+facts c =
+    let p = c.requires in
+    let r = c.log2-k.ensures in
+    blocks p.0 p.1 p.2 p.3 r.is (rw (one_shifted 64 c.log2-k.result (omega arith)))
+
 pub returns : goal.returns
 returns c =
-    let facts : (let a = c.args in
-    let k = c.log2-k.result in
-    Blocks a.parents.now a.tour.now a.i a.j k (a.j + 1 - 1 * 2 ^ k % 2 ^ 64)) = (let p = c.requires in
-    let r = c.log2-k.ensures in
-    blocks p.0 p.1 p.2 p.3 r.is (rw (one_shifted 64 c.log2-k.result (omega arith)))) in
-    let d = facts in
+    let d = facts (goal.at.returns c).After-log2-k in
     record {
       left = d.left.is ∙ d.left_is;
       right = d.right.is ∙ d.right_is;
@@ -24,32 +27,11 @@ returns c =
       right-inside = d.right.position;
     }
 
--- `facts`: the two blocks, once the length of each is known; 1 shifted up by k is 2 ^ k
 pub bounds-tour-row : goal.bounds-tour-row
-bounds-tour-row c =
-    let facts : (let a = c.args in
-    let k = c.log2-k.result in
-    Blocks a.parents.now a.tour.now a.i a.j k (a.j + 1 - 1 * 2 ^ k % 2 ^ 64)) = (let p = c.requires in
-    let r = c.log2-k.ensures in
-    blocks p.0 p.1 p.2 p.3 r.is (rw (one_shifted 64 c.log2-k.result (omega arith)))) in
-    facts.left.room
+bounds-tour-row c = (facts (goal.at.bounds-tour-row c).After-log2-k).left.room
 
--- `facts`: the two blocks, once the length of each is known; 1 shifted up by k is 2 ^ k
 pub overflow_sub-right : goal.overflow_sub-right
-overflow_sub-right c =
-    let facts : (let a = c.args in
-    let k = c.log2-k.result in
-    Blocks a.parents.now a.tour.now a.i a.j k (a.j + 1 - 1 * 2 ^ k % 2 ^ 64)) = (let p = c.requires in
-    let r = c.log2-k.ensures in
-    blocks p.0 p.1 p.2 p.3 r.is (rw (one_shifted 64 c.log2-k.result (omega arith)))) in
-    let d = facts in omega arith
+overflow_sub-right c = let d = facts (goal.at.overflow_sub-right c).After-log2-k in omega arith
 
--- `facts`: the two blocks, once the length of each is known; 1 shifted up by k is 2 ^ k
 pub bounds-tour-row-2 : goal.bounds-tour-row-2
-bounds-tour-row-2 c =
-    let facts : (let a = c.args in
-    let k = c.log2-k.result in
-    Blocks a.parents.now a.tour.now a.i a.j k (a.j + 1 - 1 * 2 ^ k % 2 ^ 64)) = (let p = c.requires in
-    let r = c.log2-k.ensures in
-    blocks p.0 p.1 p.2 p.3 r.is (rw (one_shifted 64 c.log2-k.result (omega arith)))) in
-    facts.right.room
+bounds-tour-row-2 c = (facts (goal.at.bounds-tour-row-2 c).After-log2-k).right.room

@@ -5,29 +5,23 @@ use mathlib.Core.Path.{sym, ◌∙◌}
 use borrow.Author.Rules.{rules}
 use Rattle.rules.proofs.TourCells.{Shown, shown}
 use Rattle.rules.proofs.blocks.shallowest.Goals as goal
+use Rattle.rules.proofs.blocks.shallowest.Goals.{After-cover-at}
 
--- `facts`: what the two blocks show
+-- what the two blocks show
+facts : (c : After-cover-at) → Shown c.args.parents.now c.args.tour.now c.args.i c.args.j c.cover-at.result
+facts c = let p = c.requires in shown p.0 p.2 p.3 p.4 c.cover-at.ensures
+
 pub nearer-requires : goal.nearer-requires
 nearer-requires c =
-    let facts : (let a = c.args in Shown a.parents.now a.tour.now a.i a.j c.cover-at.result) = (let p = c.requires in shown p.0 p.2 p.3 p.4 c.cover-at.ensures) in
-    let d = facts in
+    let d = facts (goal.at.nearer-requires c).After-cover-at in
     let p = c.requires in
     (record { small = p.0; left = d.left.node; right = d.right.node }, p.1)
 
--- `facts`: what the two blocks show
 pub returns : goal.returns
-returns c =
-    let facts : (let a = c.args in Shown a.parents.now a.tour.now a.i a.j c.cover-at.result) = (let p = c.requires in shown p.0 p.2 p.3 p.4 c.cover-at.ensures) in
-    let r = c.nearer.ensures in record { is = r.is ∙ sym facts.answer; below = r.below }
+returns c = let r = c.nearer.ensures in record { is = r.is ∙ sym (facts (goal.at.returns c).After-cover-at).answer; below = r.below }
 
--- `facts`: what the two blocks show
 pub bounds-tour-left : goal.bounds-tour-left
-bounds-tour-left c =
-    let facts : (let a = c.args in Shown a.parents.now a.tour.now a.i a.j c.cover-at.result) = (let p = c.requires in shown p.0 p.2 p.3 p.4 c.cover-at.ensures) in
-    facts.left.room
+bounds-tour-left c = (facts (goal.at.bounds-tour-left c).After-cover-at).left.room
 
--- `facts`: what the two blocks show
 pub bounds-tour-right : goal.bounds-tour-right
-bounds-tour-right c =
-    let facts : (let a = c.args in Shown a.parents.now a.tour.now a.i a.j c.cover-at.result) = (let p = c.requires in shown p.0 p.2 p.3 p.4 c.cover-at.ensures) in
-    facts.right.room
+bounds-tour-right c = (facts (goal.at.bounds-tour-right c).After-cover-at).right.room

@@ -6,16 +6,21 @@ use borrow.Author.Rules.{rules}
 use Rattle.rules.proofs.Cells.{label_length}
 use Rattle.rules.proofs.Toward.{HeadCell, path_read, path-head, step3-here, step3-head}
 use Rattle.rules.proofs.steps.step3.Goals as goal
+use Rattle.rules.proofs.steps.step3.Goals.{After-path_read-path}
+
+-- the label of which HEAD is read
+path : (c : After-path_read-path) → c.path_read-path.result ≡ path_read c.args.parents.now c.args.label.now c.args.v c.args.j c.args.iz
+path c = rw (c.path_read-path.ensures, c.log2-k.ensures.is, c.bits_below.ensures)
+
+head : (c : After-path_read-path) → HeadCell c.args.parents.now c.args.label.now c.path_read-path.result
+head c = rw (path c) (path-head c.requires.0 c.requires.1)
 
 pub returns-then-iv-iz : goal.returns-then-iv-iz
 returns-then-iv-iz c = step3-here c.requires.0 c.requires.1 c.if-iv-iz.true
 
--- `path`: the label of which HEAD is read
 pub returns-else-iv-iz : goal.returns-else-iv-iz
 returns-else-iv-iz c =
-    let path : (let a = c.args in
-    c.path_read-path.result ≡ path_read a.parents.now a.label.now a.v a.j a.iz) = (rw (c.path_read-path.ensures, c.log2-k.ensures.is, c.bits_below.ensures)) in
-    rw path (step3-head c.requires.0 c.requires.1 c.if-iv-iz.false)
+    rw (path (goal.at.returns-else-iv-iz c).After-path_read-path) (step3-head c.requires.0 c.requires.1 c.if-iv-iz.false)
 
 pub bounds-label-n : goal.bounds-label-n
 bounds-label-n c = omega (arith, label_length _ c.requires.1)
@@ -23,18 +28,8 @@ bounds-label-n c = omega (arith, label_length _ c.requires.1)
 pub bounds-label-n-2 : goal.bounds-label-n-2
 bounds-label-n-2 c = omega (arith, label_length _ c.requires.1)
 
--- `path`: the label of which HEAD is read
 pub bounds-label-n-3 : goal.bounds-label-n-3
-bounds-label-n-3 c =
-    let path : (let a = c.args in
-    c.path_read-path.result ≡ path_read a.parents.now a.label.now a.v a.j a.iz) = (rw (c.path_read-path.ensures, c.log2-k.ensures.is, c.bits_below.ensures)) in
-    let head : (let a = c.args in HeadCell a.parents.now a.label.now c.path_read-path.result) = (rw path (path-head c.requires.0 c.requires.1)) in
-    let d = head in omega (arith, label_length _ c.requires.1)
+bounds-label-n-3 c = let d = head (goal.at.bounds-label-n-3 c).After-path_read-path in omega (arith, label_length _ c.requires.1)
 
--- `path`: the label of which HEAD is read
 pub bounds-parents-head : goal.bounds-parents-head
-bounds-parents-head c =
-    let path : (let a = c.args in
-    c.path_read-path.result ≡ path_read a.parents.now a.label.now a.v a.j a.iz) = (rw (c.path_read-path.ensures, c.log2-k.ensures.is, c.bits_below.ensures)) in
-    let head : (let a = c.args in HeadCell a.parents.now a.label.now c.path_read-path.result) = (rw path (path-head c.requires.0 c.requires.1)) in
-    let d = head in omega arith
+bounds-parents-head c = let d = head (goal.at.bounds-parents-head c).After-path_read-path in omega arith

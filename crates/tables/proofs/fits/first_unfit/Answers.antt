@@ -9,10 +9,6 @@ use borrow.Author.Tests.{eq-eqb, ne_eqb}
 use Rattle.tree.proofs.Fits.{unfit-here, unfit-later}
 use Rattle.tables.proofs.fits.first_unfit.Goals as goal
 
--- rows of at most 32,767 cells, and at most 17 of them
-few : (w k : ℕ) → w ≤ 32767 → k ≤ 17 → w * k ≤ 557039
-few w k h b = le_trans (mul-le-mul_left w b) (mul-le-mul_right 17 h)
-
 pub returns-then-n-eq0 : goal.returns-then-n-eq0
 returns-then-n-eq0 c = λ h b. absurd (omega arith)
 

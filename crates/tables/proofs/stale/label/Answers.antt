@@ -15,6 +15,13 @@ use Rattle.labels.proofs.Stepping.{column-room}
 use Rattle.tables.proofs.Columnwise.{columns-more, columns-none}
 use Rattle.tables.proofs.Sections.{agree-all, agree-parts, agree-all-first, agree-parts-first}
 use Rattle.tables.proofs.stale.label.Goals as goal
+use Rattle.tables.proofs.stale.label.Goals.{In-loop-k}
+
+-- there is room for column k
+room : (c : In-loop-k) →
+    let n = length c.args.parents.now in
+    c.loop-k.k * n + n ≤ label_cells n
+room c = column-room _ _ c.loop-k-test.true
 
 pub numbers-same-requires : goal.numbers-same-requires
 unfolding root_of
@@ -38,12 +45,9 @@ agree_column-same-requires c =
     let l = c.loop-k.invariant in
     (l.0, c.loop-k-test.true, l.2, c.root-root.ensures)
 
--- `room`: there is room for column k
 pub returns-then-same-n-2 : goal.returns-then-same-n-2
 returns-then-same-n-2 c =
-    let room : (let n = length c.args.parents.now in
-    c.loop-k.k * n + n ≤ label_cells n) = (column-room _ _ c.loop-k-test.true) in
-    let most = room in
+    let most = room (goal.at.returns-then-same-n-2 c).In-loop-k in
     let own = label-length c.args.parents.now in
     agree-parts c.loop-k.invariant.2.own c.agree_column-same.ensures (record { cell = λ x h. refl }) (omega arith) c.if-same-n-2.true
 
