@@ -2,29 +2,34 @@
 -- Assumes nothing.
 use native.Mathlib.Omega.{arith}
 use borrow.Author.Rules.{rules}
+use Prim.Native.Nat.{◌-◌, ◌≤◌}
 use mathlib.Core.Path.{◌≡◌, sym, ◌∙◌}
 use lib.ListN.{length, length-set}
+use Rattle.tree.specs.Buffers.{visits}
+use Rattle.tree.specs.Tour.{tour_table}
+use Rattle.tree.specs.Sections.{Same}
 use Rattle.tree.proofs.Cells.{first_cell}
 use Rattle.tree.proofs.Differences.{same_none, same_store}
 use Rattle.tree.proofs.Tours.{tour-length}
 use Rattle.rows.proofs.Visited.{Node, node-read}
 use Rattle.rows.proofs.first_visits.Goals as goal
+use Rattle.rows.proofs.first_visits.Goals.{In-loop-v}
+
+facts : (c : In-loop-v) → Node c.args.parents.now c.args.label.now c.loop-v.v
+facts c = node-read c.requires c.loop-v.v c.loop-v-test.true
 
 pub loop-v-init : goal.loop-v-init
 loop-v-init c = (search rules, search rules, same_none _ _ _ _)
 
 pub first_visit-requires : goal.first_visit-requires
-first_visit-requires c =
-    let facts : (let s = c.args in Node s.parents.now s.label.now c.loop-v.v) = (node-read c.requires c.loop-v.v c.loop-v-test.true) in
-    let d = facts in (d.number, d.rest)
+first_visit-requires c = let d = facts (goal.at.first_visit-requires c).In-loop-v in (d.number, d.rest)
 
 pub loop-v-preserved : goal.loop-v-preserved
 loop-v-preserved c =
-    let facts : (let s = c.args in Node s.parents.now s.label.now c.loop-v.v) = (node-read c.requires c.loop-v.v c.loop-v-test.true) in
     let t = c.requires.ready.tree in
     let l = c.loop-v in
     let h = c.loop-v-test.true in
-    let d = facts in
+    let d = facts (goal.at.loop-v-preserved c).In-loop-v in
     (omega arith, simp length-set l.invariant.1, same_store (omega arith) l.invariant.2 (c.first_visit.ensures ∙ d.is ∙ sym (first_cell _ l.v (tour-length t) h)))
 
 pub returns : goal.returns
@@ -34,6 +39,4 @@ returns c =
     rw e at l.invariant.2
 
 pub overflow_cast-work : goal.overflow_cast-work
-overflow_cast-work c =
-    let facts : (let s = c.args in Node s.parents.now s.label.now c.loop-v.v) = (node-read c.requires c.loop-v.v c.loop-v-test.true) in
-    let d = facts in omega arith
+overflow_cast-work c = let d = facts (goal.at.overflow_cast-work c).In-loop-v in omega arith

@@ -2,22 +2,26 @@
 -- Assumes nothing.
 use native.Mathlib.Omega.{arith}
 use borrow.Author.Rules.{rules}
+use Prim.Native.Nat.{◌-◌, ◌≤◌}
 use mathlib.Core.Path.{◌≡◌}
 use lib.ListN.{length}
 use Rattle.labels.proofs.Labelled.{Number, number}
-use Rattle.labels.proofs.InOrder.{listed_start, listed-step, listed-end}
+use Rattle.labels.proofs.InOrder.{Listed, listed_start, listed-step, listed-end}
 use Rattle.labels.proofs.along.order.Goals as goal
+use Rattle.labels.proofs.along.order.Goals.{After-shared_slice_known-1}
+
+-- the cell that is read is v's PREORDER
+here : (c : After-shared_slice_known-1) → Number c.args.parents.now c.args.label.now c.loop-v.v
+here c = number c.loop-v-test.true c.requires
 
 pub loop-v-init : goal.loop-v-init
 loop-v-init c = (search rules, listed_start c.requires.ready.room)
 
--- `here`: the cell that is read is v's PREORDER
 pub loop-v-preserved : goal.loop-v-preserved
 loop-v-preserved c =
-    let here : (Number c.args.parents.now c.args.label.now c.loop-v.v) = (number c.loop-v-test.true c.requires) in
     let s = c.requires in
     let l = c.loop-v in
-    let f = here in
+    let f = here c in
     (search rules, listed-step s.ready.tree l.invariant.1 c.loop-v-test.true (omega arith))
 
 pub returns : goal.returns
@@ -26,14 +30,8 @@ returns c =
     let e : l.v ≡ length c.args.parents.now = omega arith in
     listed-end c.requires.ready.tree (rw e at l.invariant.1)
 
--- `here`: the cell that is read is v's PREORDER
 pub overflow_sub-work : goal.overflow_sub-work
-overflow_sub-work c =
-    let here : (Number c.args.parents.now c.args.label.now c.loop-v.v) = (number c.loop-v-test.true c.requires) in
-    let f = here in search rules
+overflow_sub-work c = let f = here c in search rules
 
--- `here`: the cell that is read is v's PREORDER
 pub bounds-work-label : goal.bounds-work-label
-bounds-work-label c =
-    let here : (Number c.args.parents.now c.args.label.now c.loop-v.v) = (number c.loop-v-test.true c.requires) in
-    let f = here in search rules
+bounds-work-label c = let f = here c in search rules

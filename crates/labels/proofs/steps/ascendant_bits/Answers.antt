@@ -1,10 +1,18 @@
 -- `labels::steps::ascendant_bits` meets its contract: where no bit is gathered, ASCENDANT follows the parents' to each node before v.
 -- Assumes nothing.
 use native.Mathlib.Omega.{arith}
+use borrow.Author.Rules.{rules}
+use Prim.Native.Nat.{ℕ, ◌+◌, ◌-◌, ◌*◌}
+use lib.ListN.{length, get_or}
 use Rattle.tree.specs.Tree.{parent}
+use Rattle.labels.specs.Steps.{ascendant_step}
 use Rattle.preorder.proofs.Parents.{Cells}
-use Rattle.labels.proofs.Stepping.{step-cells, gathered-start, gathered-step, gathered-end}
+use Rattle.labels.proofs.Stepping.{Gathered, step-cells, gathered-start, gathered-step, gathered-end}
 use Rattle.labels.proofs.steps.ascendant_bits.Goals as goal
+use Rattle.labels.proofs.steps.ascendant_bits.Goals.{In-loop-v, After-shared_slice_known-in-loop-v-5-1}
+
+cells : (c : In-loop-v) → Cells c.args.parents.now c.args.label.now c.loop-v.v
+cells c = step-cells c.requires c.loop-v-test.true
 
 pub loop-v-init : goal.loop-v-init
 loop-v-init c = gathered-start c.requires.ordered
@@ -18,11 +26,7 @@ pub returns : goal.returns
 returns c = gathered-end c.loop-v.invariant c.loop-v-test.false
 
 pub bounds-label-n-in-loop-v : goal.bounds-label-n-in-loop-v
-bounds-label-n-in-loop-v c =
-    let cells : (let s = c.args in Cells s.parents.now s.label.now c.loop-v.v) = (step-cells c.requires c.loop-v-test.true) in
-    let d = cells in omega arith
+bounds-label-n-in-loop-v c = let d = cells (goal.at.bounds-label-n-in-loop-v c).In-loop-v in omega arith
 
 pub bounds-label-n-in-loop-v-3 : goal.bounds-label-n-in-loop-v-3
-bounds-label-n-in-loop-v-3 c =
-    let cells : (let s = c.args in Cells s.parents.now s.label.now c.loop-v.v) = (step-cells c.requires c.loop-v-test.true) in
-    let d = cells in omega arith
+bounds-label-n-in-loop-v-3 c = let d = cells (goal.at.bounds-label-n-in-loop-v-3 c).In-loop-v in omega arith

@@ -2,13 +2,28 @@
 -- Assumes nothing.
 use native.Mathlib.Omega.{arith}
 use borrow.Author.Rules.{rules}
-use Prim.Native.Nat.{◌<◌}
+use Prim.Native.Nat.{◌-◌, ◌≤◌, ◌<◌}
 use mathlib.Core.Path.{◌≡◌}
 use lib.ListN.{length, get_or, length-set}
 use Rattle.tree.specs.Tree.{parent}
+use Rattle.preorder.specs.Walk.{node_at}
 use Rattle.preorder.proofs.Parents.{the-root}
-use Rattle.preorder.proofs.Walking.{walking_start, walking-node, walking-step, walking-next, walking-end}
+use Rattle.preorder.proofs.Walking.{Walking, walking_start, walking-node, walking-step, walking-next, walking-end}
 use Rattle.preorder.proofs.links.number.Goals as goal
+use Rattle.preorder.proofs.links.number.Goals.{Start, In-loop-k}
+
+-- the root is a node
+top : (c : Start) → c.args.root < length c.args.parents.now
+top c = (the-root c.requires.ready.tree c.requires.is).node
+
+-- v is a node, and its parent is one
+here : (c : In-loop-k) → (c.loop-k.v < length c.args.parents.now) × (get_or c.args.parents.now c.loop-k.v 0 < length c.args.parents.now)
+unfolding parent
+here c =
+    let t = c.requires.ready.tree in
+    let l = c.loop-k.invariant in
+    let h = (walking-node t c.loop-k-test.true l.1 l.2).node in
+    (h, t.inside _ h)
 
 pub loop-k-init : goal.loop-k-init
 loop-k-init c =
@@ -30,191 +45,59 @@ returns c =
     let e : l.k ≡ length c.args.parents.now = omega arith in
     walking-end c.requires.ready.tree (rw e at l.invariant.2)
 
--- `top`: the root is a node
 pub overflow_add-work : goal.overflow_add-work
-overflow_add-work c =
-    let top : (c.args.root < length c.args.parents.now) = ((the-root c.requires.ready.tree c.requires.is).node) in
-    let b = top in search rules
+overflow_add-work c = let b = top (goal.at.overflow_add-work c).Start in search rules
 
--- `top`: the root is a node
 pub offset_bounds-work-n : goal.offset_bounds-work-n
-offset_bounds-work-n c =
-    let top : (c.args.root < length c.args.parents.now) = ((the-root c.requires.ready.tree c.requires.is).node) in
-    let b = top in search rules
+offset_bounds-work-n c = let b = top (goal.at.offset_bounds-work-n c).Start in search rules
 
--- `top`: the root is a node
 pub bounds-work-n : goal.bounds-work-n
-bounds-work-n c =
-    let top : (c.args.root < length c.args.parents.now) = ((the-root c.requires.ready.tree c.requires.is).node) in
-    let b = top in search rules
+bounds-work-n c = let b = top (goal.at.bounds-work-n c).Start in search rules
 
--- `here`: v is a node, and its parent is one
 pub offset_bounds-parents-v : goal.offset_bounds-parents-v
-unfolding parent
-offset_bounds-parents-v c =
-    let here : (let s = c.args.parents.now in
-    let v = c.loop-k.v in
-    (v < length s) × (get_or s v 0 < length s)) = (let t = c.requires.ready.tree in
-    let l = c.loop-k.invariant in
-    let h = (walking-node t c.loop-k-test.true l.1 l.2).node in
-    (h, t.inside _ h)) in
-    let b = here in search rules
+offset_bounds-parents-v c = let b = here c in search rules
 
--- `here`: v is a node, and its parent is one
 pub bounds-parents-v : goal.bounds-parents-v
-unfolding parent
-bounds-parents-v c =
-    let here : (let s = c.args.parents.now in
-    let v = c.loop-k.v in
-    (v < length s) × (get_or s v 0 < length s)) = (let t = c.requires.ready.tree in
-    let l = c.loop-k.invariant in
-    let h = (walking-node t c.loop-k-test.true l.1 l.2).node in
-    (h, t.inside _ h)) in
-    let b = here in search rules
+bounds-parents-v c = let b = here (goal.at.bounds-parents-v c).In-loop-k in search rules
 
--- `here`: v is a node, and its parent is one
 pub bounds-work-n-in-loop-k : goal.bounds-work-n-in-loop-k
-unfolding parent
-bounds-work-n-in-loop-k c =
-    let here : (let s = c.args.parents.now in
-    let v = c.loop-k.v in
-    (v < length s) × (get_or s v 0 < length s)) = (let t = c.requires.ready.tree in
-    let l = c.loop-k.invariant in
-    let h = (walking-node t c.loop-k-test.true l.1 l.2).node in
-    (h, t.inside _ h)) in
-    let b = here in search rules
+bounds-work-n-in-loop-k c = let b = here (goal.at.bounds-work-n-in-loop-k c).In-loop-k in search rules
 
--- `here`: v is a node, and its parent is one
 pub overflow_add-work-in-loop-k : goal.overflow_add-work-in-loop-k
-unfolding parent
-overflow_add-work-in-loop-k c =
-    let here : (let s = c.args.parents.now in
-    let v = c.loop-k.v in
-    (v < length s) × (get_or s v 0 < length s)) = (let t = c.requires.ready.tree in
-    let l = c.loop-k.invariant in
-    let h = (walking-node t c.loop-k-test.true l.1 l.2).node in
-    (h, t.inside _ h)) in
-    let b = here in search rules
+overflow_add-work-in-loop-k c = let b = here (goal.at.overflow_add-work-in-loop-k c).In-loop-k in search rules
 
--- `here`: v is a node, and its parent is one
 pub offset_bounds-work-n-in-loop-k-2 : goal.offset_bounds-work-n-in-loop-k-2
-unfolding parent
-offset_bounds-work-n-in-loop-k-2 c =
-    let here : (let s = c.args.parents.now in
-    let v = c.loop-k.v in
-    (v < length s) × (get_or s v 0 < length s)) = (let t = c.requires.ready.tree in
-    let l = c.loop-k.invariant in
-    let h = (walking-node t c.loop-k-test.true l.1 l.2).node in
-    (h, t.inside _ h)) in
-    let b = here in search rules
+offset_bounds-work-n-in-loop-k-2 c = let b = here (goal.at.offset_bounds-work-n-in-loop-k-2 c).In-loop-k in search rules
 
--- `here`: v is a node, and its parent is one
 pub bounds-work-n-in-loop-k-2 : goal.bounds-work-n-in-loop-k-2
-unfolding parent
-bounds-work-n-in-loop-k-2 c =
-    let here : (let s = c.args.parents.now in
-    let v = c.loop-k.v in
-    (v < length s) × (get_or s v 0 < length s)) = (let t = c.requires.ready.tree in
-    let l = c.loop-k.invariant in
-    let h = (walking-node t c.loop-k-test.true l.1 l.2).node in
-    (h, t.inside _ h)) in
-    let b = here in search rules
+bounds-work-n-in-loop-k-2 c = let b = here (goal.at.bounds-work-n-in-loop-k-2 c).In-loop-k in search rules
 
--- `here`: v is a node, and its parent is one
 pub overflow_add-n : goal.overflow_add-n
-unfolding parent
-overflow_add-n c =
-    let here : (let s = c.args.parents.now in
-    let v = c.loop-k.v in
-    (v < length s) × (get_or s v 0 < length s)) = (let t = c.requires.ready.tree in
-    let l = c.loop-k.invariant in
-    let h = (walking-node t c.loop-k-test.true l.1 l.2).node in
-    (h, t.inside _ h)) in
-    let b = here in search rules
+overflow_add-n c = let b = here (goal.at.overflow_add-n c).In-loop-k in search rules
 
--- `here`: v is a node, and its parent is one
 pub offset_bounds-work-n-in-loop-k-3 : goal.offset_bounds-work-n-in-loop-k-3
-unfolding parent
-offset_bounds-work-n-in-loop-k-3 c =
-    let here : (let s = c.args.parents.now in
-    let v = c.loop-k.v in
-    (v < length s) × (get_or s v 0 < length s)) = (let t = c.requires.ready.tree in
-    let l = c.loop-k.invariant in
-    let h = (walking-node t c.loop-k-test.true l.1 l.2).node in
-    (h, t.inside _ h)) in
-    let b = here in search rules
+offset_bounds-work-n-in-loop-k-3 c = let b = here (goal.at.offset_bounds-work-n-in-loop-k-3 c).In-loop-k in search rules
 
--- `here`: v is a node, and its parent is one
 pub bounds-work-n-in-loop-k-3 : goal.bounds-work-n-in-loop-k-3
-unfolding parent
 bounds-work-n-in-loop-k-3 c =
-    let here : (let s = c.args.parents.now in
-    let v = c.loop-k.v in
-    (v < length s) × (get_or s v 0 < length s)) = (let t = c.requires.ready.tree in
-    let l = c.loop-k.invariant in
-    let h = (walking-node t c.loop-k-test.true l.1 l.2).node in
-    (h, t.inside _ h)) in
-    let b = here in
+    let b = here (goal.at.bounds-work-n-in-loop-k-3 c).In-loop-k in
     simp length-set (omega (arith, c.loop-k.invariant.2.number.room))
 
--- `here`: v is a node, and its parent is one
 pub overflow_add-work-in-loop-k-2 : goal.overflow_add-work-in-loop-k-2
-unfolding parent
-overflow_add-work-in-loop-k-2 c =
-    let here : (let s = c.args.parents.now in
-    let v = c.loop-k.v in
-    (v < length s) × (get_or s v 0 < length s)) = (let t = c.requires.ready.tree in
-    let l = c.loop-k.invariant in
-    let h = (walking-node t c.loop-k-test.true l.1 l.2).node in
-    (h, t.inside _ h)) in
-    let b = here in search rules
+overflow_add-work-in-loop-k-2 c = let b = here (goal.at.overflow_add-work-in-loop-k-2 c).In-loop-k in search rules
 
--- `here`: v is a node, and its parent is one
 pub offset_bounds-work-n-in-loop-k-4 : goal.offset_bounds-work-n-in-loop-k-4
-unfolding parent
-offset_bounds-work-n-in-loop-k-4 c =
-    let here : (let s = c.args.parents.now in
-    let v = c.loop-k.v in
-    (v < length s) × (get_or s v 0 < length s)) = (let t = c.requires.ready.tree in
-    let l = c.loop-k.invariant in
-    let h = (walking-node t c.loop-k-test.true l.1 l.2).node in
-    (h, t.inside _ h)) in
-    let b = here in search rules
+offset_bounds-work-n-in-loop-k-4 c = let b = here (goal.at.offset_bounds-work-n-in-loop-k-4 c).In-loop-k in search rules
 
--- `here`: v is a node, and its parent is one
 pub bounds-work-n-in-loop-k-4 : goal.bounds-work-n-in-loop-k-4
-unfolding parent
 bounds-work-n-in-loop-k-4 c =
-    let here : (let s = c.args.parents.now in
-    let v = c.loop-k.v in
-    (v < length s) × (get_or s v 0 < length s)) = (let t = c.requires.ready.tree in
-    let l = c.loop-k.invariant in
-    let h = (walking-node t c.loop-k-test.true l.1 l.2).node in
-    (h, t.inside _ h)) in
-    let b = here in
+    let b = here (goal.at.bounds-work-n-in-loop-k-4 c).In-loop-k in
     simp length-set (omega (arith, c.loop-k.invariant.2.number.room))
 
--- `here`: v is a node, and its parent is one
 pub offset_bounds-work-v : goal.offset_bounds-work-v
-unfolding parent
-offset_bounds-work-v c =
-    let here : (let s = c.args.parents.now in
-    let v = c.loop-k.v in
-    (v < length s) × (get_or s v 0 < length s)) = (let t = c.requires.ready.tree in
-    let l = c.loop-k.invariant in
-    let h = (walking-node t c.loop-k-test.true l.1 l.2).node in
-    (h, t.inside _ h)) in
-    let b = here in search rules
+offset_bounds-work-v c = let b = here (goal.at.offset_bounds-work-v c).In-loop-k in search rules
 
--- `here`: v is a node, and its parent is one
 pub bounds-work-v : goal.bounds-work-v
-unfolding parent
 bounds-work-v c =
-    let here : (let s = c.args.parents.now in
-    let v = c.loop-k.v in
-    (v < length s) × (get_or s v 0 < length s)) = (let t = c.requires.ready.tree in
-    let l = c.loop-k.invariant in
-    let h = (walking-node t c.loop-k-test.true l.1 l.2).node in
-    (h, t.inside _ h)) in
-    let b = here in
+    let b = here (goal.at.bounds-work-v c).In-loop-k in
     simp length-set (omega (arith, c.loop-k.invariant.2.number.room))

@@ -2,21 +2,46 @@
 -- Assumes nothing.
 use native.Mathlib.Omega.{arith}
 use borrow.Author.Rules.{rules}
-use Prim.Native.Nat.{ℕ, ◌+◌, ◌*◌, ◌<◌}
+use Prim.Native.Nat.{ℕ, ◌+◌, ◌-◌, ◌*◌, ◌≤◌, ◌<◌}
 use native.Mathlib.Numerals.{add-one}
 use mathlib.Core.Path.{◌≡◌, ap, ◌∙◌}
 use mathlib.Core.List.{List}
 use lib.ListN.{length, get_or, length-set}
 use Rattle.tree.specs.Tree.{parent}
 use Rattle.cells.proofs.Stretches.{no_bits}
+use Rattle.preorder.specs.Sums.{Sums, Numbered}
 use Rattle.preorder.proofs.Parents.{Cells, cells_at}
 use Rattle.preorder.proofs.Summing.{sums-more, numbered-none, numbered_more}
 use Rattle.preorder.proofs.sums.add.Goals as goal
+use Rattle.preorder.proofs.sums.add.Goals.{In-loop-v, After-shared_slice_known-in-loop-v-1}
+
+cells : (c : In-loop-v) → Cells c.args.parents.now c.args.label.now c.loop-v.v
+cells c =
+    let p = c.requires in
+    let most = p.most in
+    cells_at p.ready.small p.ready.tree.inside p.cells (omega arith)
+
+-- work keeps its length
+room : (c : In-loop-v) → length c.loop-v.work ≡ 4 * length c.args.parents.now
+room c = c.loop-v.invariant.2 ∙ c.requires.ready.room
+
+-- the node's parent
+abbrev parent_of : After-shared_slice_known-in-loop-v-1 → ℕ
+parent_of c = get_or c.args.parents.now c.loop-v.v 0
 
 -- its sum and the node's SIZE, as they were read, have 16 bits
 record Read (label work : List ℕ) (n v p : ℕ) : Type 0 where
   sum : get_or work p 0 < 65536
   size : get_or label (n + v) 0 < 65536
+
+read : (c : After-shared_slice_known-in-loop-v-1) → Read c.args.label.now c.loop-v.work (length c.args.parents.now) c.loop-v.v (parent_of c)
+read c =
+    let s = c.args in
+    let l = c.loop-v in
+    record {
+      sum = omega (arith, c.type_inv.work (parent_of c));
+      size = omega (arith, c.type_inv.label (length s.parents.now + l.v));
+    }
 
 pub loop-v-init : goal.loop-v-init
 loop-v-init c = (search rules, c.requires.ordered, search rules, c.requires.sums, λ e. numbered-none _ _ _)
@@ -24,21 +49,16 @@ loop-v-init c = (search rules, c.requires.ordered, search rules, c.requires.sums
 pub returns-then-n-grown : goal.returns-then-n-grown
 returns-then-n-grown c = λ z. absurd (omega arith)
 
--- `room`: work keeps its length
 pub loop-v-preserved : goal.loop-v-preserved
 unfolding parent
 loop-v-preserved c =
-    let cells : (let s = c.args in Cells s.parents.now s.label.now c.loop-v.v) = (let p = c.requires in
-    let most = p.most in
-    cells_at p.ready.small p.ready.tree.inside p.cells (omega arith)) in
-    let room : (length c.loop-v.work ≡ 4 * length c.args.parents.now) = (c.loop-v.invariant.2 ∙ c.requires.ready.room) in
     let l = c.loop-v in
-    let f = cells in
+    let f = cells (goal.at.loop-v-preserved c).In-loop-v in
     let child = c.requires.child l.v l.invariant.0 c.loop-v-test.true in (
       omega arith,
       omega arith,
       simp length-set l.invariant.2,
-      rw add-one (sums-more (omega (arith, room)) f.above child l.invariant.3),
+      rw add-one (sums-more (omega (arith, room (goal.at.loop-v-preserved c).In-loop-v)) f.above child l.invariant.3),
       λ z.
           let none = no_bits _ _ _ z in
           rw add-one
@@ -53,27 +73,11 @@ returns c =
     let e : l.v ≡ c.args.end = omega arith in
     (rw e at l.invariant.3, rw e at (l.invariant.4 z))
 
--- `room`: work keeps its length
 pub bounds-work-p : goal.bounds-work-p
-bounds-work-p c =
-    let cells : (let s = c.args in Cells s.parents.now s.label.now c.loop-v.v) = (let p = c.requires in
-    let most = p.most in
-    cells_at p.ready.small p.ready.tree.inside p.cells (omega arith)) in
-    let room : (length c.loop-v.work ≡ 4 * length c.args.parents.now) = (c.loop-v.invariant.2 ∙ c.requires.ready.room) in
-    let d = cells in omega (arith, room)
+bounds-work-p c = let d = cells (goal.at.bounds-work-p c).In-loop-v in omega (arith, room (goal.at.bounds-work-p c).In-loop-v)
 
 pub bounds-label-p : goal.bounds-label-p
-bounds-label-p c =
-    let cells : (let s = c.args in Cells s.parents.now s.label.now c.loop-v.v) = (let p = c.requires in
-    let most = p.most in
-    cells_at p.ready.small p.ready.tree.inside p.cells (omega arith)) in
-    let d = cells in omega arith
+bounds-label-p c = let d = cells (goal.at.bounds-label-p c).In-loop-v in omega arith
 
--- `room`: work keeps its length
 pub bounds-work-p-in-loop-v : goal.bounds-work-p-in-loop-v
-bounds-work-p-in-loop-v c =
-    let cells : (let s = c.args in Cells s.parents.now s.label.now c.loop-v.v) = (let p = c.requires in
-    let most = p.most in
-    cells_at p.ready.small p.ready.tree.inside p.cells (omega arith)) in
-    let room : (length c.loop-v.work ≡ 4 * length c.args.parents.now) = (c.loop-v.invariant.2 ∙ c.requires.ready.room) in
-    let d = cells in omega (arith, room)
+bounds-work-p-in-loop-v c = let d = cells (goal.at.bounds-work-p-in-loop-v c).In-loop-v in omega (arith, room (goal.at.bounds-work-p-in-loop-v c).In-loop-v)

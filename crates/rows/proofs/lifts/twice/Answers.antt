@@ -2,20 +2,26 @@
 -- Assumes nothing.
 use native.Mathlib.Omega.{arith}
 use borrow.Author.Rules.{rules}
+use Prim.Native.Nat.{◌+◌, ◌-◌, ◌≤◌}
 use mathlib.Core.Path.{◌≡◌}
 use lib.ListN.{length, length-set}
+use Rattle.tree.specs.Lifts.{lift_table}
+use Rattle.tree.specs.Sections.{Same}
 use Rattle.tree.proofs.Differences.{same_none, same_store}
 use Rattle.rows.proofs.Doubled.{Doubled, doubled}
 use Rattle.rows.proofs.lifts.twice.Goals as goal
+use Rattle.rows.proofs.lifts.twice.Goals.{In-loop-v}
+
+facts : (c : In-loop-v) → Doubled c.args.parents.now c.args.lift.now c.args.at c.loop-v.v
+facts c = doubled c.requires c.loop-v.v c.loop-v-test.true
 
 pub loop-v-init : goal.loop-v-init
 loop-v-init c = (search rules, search rules, same_none _ _ _ _)
 
 pub loop-v-preserved : goal.loop-v-preserved
 loop-v-preserved c =
-    let facts : (let s = c.args in Doubled s.parents.now s.lift.now s.at c.loop-v.v) = (doubled c.requires c.loop-v.v c.loop-v-test.true) in
     let l = c.loop-v in
-    let d = facts in
+    let d = facts (goal.at.loop-v-preserved c).In-loop-v in
     (omega arith, simp length-set l.invariant.1, same_store (omega arith) l.invariant.2 d.twice)
 
 pub returns : goal.returns
@@ -25,6 +31,4 @@ returns c =
     rw e at l.invariant.2
 
 pub bounds-lift-at-in-loop-v : goal.bounds-lift-at-in-loop-v
-bounds-lift-at-in-loop-v c =
-    let facts : (let s = c.args in Doubled s.parents.now s.lift.now s.at c.loop-v.v) = (doubled c.requires c.loop-v.v c.loop-v-test.true) in
-    let d = facts in omega arith
+bounds-lift-at-in-loop-v c = let d = facts (goal.at.bounds-lift-at-in-loop-v c).In-loop-v in omega arith

@@ -2,22 +2,28 @@
 -- Assumes nothing.
 use native.Mathlib.Omega.{arith}
 use borrow.Author.Rules.{rules}
+use Prim.Native.Nat.{◌+◌, ◌-◌, ◌≤◌}
 use native.Mathlib.Numerals.{add-one}
 use mathlib.Core.Path.{◌≡◌, ◌∙◌}
 use lib.ListN.{length}
+use Rattle.tree.specs.Lifts.{lift_table}
+use Rattle.tree.specs.Sections.{Same}
 use Rattle.tree.proofs.Differences.{same_none, same_more}
 use Rattle.cells.proofs.Stretches.{no_bits}
-use Rattle.rows.proofs.Doubled.{Doubled, doubled}
+use Rattle.rows.proofs.Doubled.{Doubled, doubled, next-room}
 use Rattle.rows.proofs.lifts.twice_differences.Goals as goal
+use Rattle.rows.proofs.lifts.twice_differences.Goals.{In-loop-v}
+
+facts : (c : In-loop-v) → Doubled c.args.parents.now c.args.lift.now c.args.at c.loop-v.v
+facts c = doubled c.requires c.loop-v.v c.loop-v-test.true
 
 pub loop-v-init : goal.loop-v-init
 loop-v-init c = (search rules, λ e. same_none _ _ _ _)
 
 pub loop-v-preserved : goal.loop-v-preserved
 loop-v-preserved c =
-    let facts : (let s = c.args in Doubled s.parents.now s.lift.now s.at c.loop-v.v) = (doubled c.requires c.loop-v.v c.loop-v-test.true) in
     let l = c.loop-v in
-    let d = facts in
+    let d = facts (goal.at.loop-v-preserved c).In-loop-v in
     (omega arith, λ z. let none = no_bits _ _ _ z in rw add-one (same_more (l.invariant.1 none.0) (none.1 ∙ d.twice)))
 
 pub returns : goal.returns
@@ -28,6 +34,4 @@ returns c =
     rw end at (l.invariant.1 z)
 
 pub bounds-lift-at-in-loop-v-2 : goal.bounds-lift-at-in-loop-v-2
-bounds-lift-at-in-loop-v-2 c =
-    let facts : (let s = c.args in Doubled s.parents.now s.lift.now s.at c.loop-v.v) = (doubled c.requires c.loop-v.v c.loop-v-test.true) in
-    let d = facts in omega arith
+bounds-lift-at-in-loop-v-2 c = let d = facts (goal.at.bounds-lift-at-in-loop-v-2 c).In-loop-v in omega arith

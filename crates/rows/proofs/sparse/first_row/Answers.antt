@@ -2,21 +2,25 @@
 -- Assumes nothing.
 use native.Mathlib.Omega.{arith}
 use borrow.Author.Rules.{rules}
+use Prim.Native.Nat.{◌-◌, ◌≤◌}
 use mathlib.Core.Path.{◌≡◌}
 use lib.ListN.{length, length-set}
 use Rattle.tree.specs.Buffers.{visits}
-use Rattle.rows.proofs.FirstRow.{Stop, stop, first-row-none, first-row-more, first-levels}
+use Rattle.rows.proofs.FirstRow.{FirstRow, Stop, stop, first-row-none, first-row-more, first-levels}
 use Rattle.rows.proofs.sparse.first_row.Goals as goal
+use Rattle.rows.proofs.sparse.first_row.Goals.{In-loop-i}
+
+facts : (c : In-loop-i) → Stop c.args.parents.now c.args.label.now c.args.tour.now c.loop-i.i
+facts c = let p = c.requires in stop p.0 p.1 p.2 c.loop-i.i c.loop-i-test.true
 
 pub loop-i-init : goal.loop-i-init
 loop-i-init c = (search rules, search rules, first-row-none _ _)
 
 pub loop-i-preserved : goal.loop-i-preserved
 loop-i-preserved c =
-    let facts : (let s = c.args in Stop s.parents.now s.label.now s.tour.now c.loop-i.i) = (let p = c.requires in stop p.0 p.1 p.2 c.loop-i.i c.loop-i-test.true) in
     let l = c.loop-i in
     let h = c.loop-i-test.true in
-    let d = facts in
+    let d = facts (goal.at.loop-i-preserved c).In-loop-i in
     (omega arith, simp length-set l.invariant.1, first-row-more c.requires.0.ready.tree h (omega arith) d.height l.invariant.2)
 
 pub returns : goal.returns
@@ -27,6 +31,4 @@ returns c =
     (first-levels r, r.own)
 
 pub bounds-label-n : goal.bounds-label-n
-bounds-label-n c =
-    let facts : (let s = c.args in Stop s.parents.now s.label.now s.tour.now c.loop-i.i) = (let p = c.requires in stop p.0 p.1 p.2 c.loop-i.i c.loop-i-test.true) in
-    let d = facts in omega arith
+bounds-label-n c = let d = facts (goal.at.bounds-label-n c).In-loop-i in omega arith

@@ -2,20 +2,25 @@
 -- Assumes nothing.
 use native.Mathlib.Omega.{arith}
 use borrow.Author.Rules.{rules}
-use mathlib.Core.Path.{◌∙◌}
-use lib.ListN.{length-set}
-use Rattle.rows.proofs.Heights.{TwoLevels, two-levels, lowered_none, lowered-more, lowered-all}
+use Prim.Native.Nat.{◌-◌, ◌*◌, ◌≤◌}
+use mathlib.Core.Path.{◌≡◌, sym, ◌∙◌}
+use lib.ListN.{length, length-set}
+use Rattle.rows.proofs.Heights.{Inside, inside, TwoLevels, two-levels, Lowered, lowered_none, lowered-more, lowered-all}
 use Rattle.rows.proofs.sparse.next_levels.Goals as goal
+use Rattle.rows.proofs.sparse.next_levels.Goals.{In-loop-i}
+
+facts : (c : In-loop-i) → TwoLevels c.args.parents.now c.loop-i.work c.args.half c.args.from c.loop-i.i
+facts c =
+    let two = c.requires.two in
+    two-levels c.requires c.loop-i.invariant.2.old c.loop-i.i (omega arith)
 
 pub loop-i-init : goal.loop-i-init
 loop-i-init c = (search rules, search rules, lowered_none c.requires.levels)
 
 pub loop-i-preserved : goal.loop-i-preserved
 loop-i-preserved c =
-    let facts : (let s = c.args in TwoLevels s.parents.now c.loop-i.work s.half s.from c.loop-i.i) = (let two = c.requires.two in
-    two-levels c.requires c.loop-i.invariant.2.old c.loop-i.i (omega arith)) in
     let l = c.loop-i in
-    let d = facts in
+    let d = facts (goal.at.loop-i-preserved c).In-loop-i in
     let two = c.requires.two in (
       omega arith,
       simp length-set l.invariant.1,
