@@ -1,7 +1,6 @@
 -- `labels::agree_column` meets its contract: where the column is told to be the sheet's own, all cells agree.
 -- Assumes nothing.
 use native.Mathlib.Omega.{arith}
-use borrow.Author.Rules.{rules}
 use native.Mathlib.Nat.{le_refl}
 use lib.ListN.{length}
 use Rattle.cells.proofs.Stretches.{agree_same}

@@ -1,7 +1,6 @@
 -- `labels::column` meets its contract: each column has its function.
 -- Assumes nothing.
 use native.Mathlib.Omega.{arith}
-use borrow.Author.Rules.{rules}
 use mathlib.Core.Path.{◌≡◌}
 use Rattle.tree.proofs.Columns.{columns-fewer}
 use Rattle.labels.proofs.column.Goals as goal

@@ -2,7 +2,7 @@
 -- Assumes nothing.
 use native.Mathlib.Omega.{arith}
 use borrow.Author.Rules.{rules}
-use Prim.Native.Nat.{◌-◌, ◌≤◌, ◌<◌}
+use Prim.Native.Nat.{◌<◌}
 use mathlib.Core.Path.{◌≡◌}
 use lib.Dec.{lit<}
 use lib.ListN.{length, get_or}
@@ -11,7 +11,7 @@ use Rattle.tree.specs.Buffers.{work_cells}
 use Rattle.tree.proofs.Columns.{column-same}
 use Rattle.preorder.proofs.Parents.{the-root}
 use Rattle.labels.proofs.Labelled.{Labelled, labelled}
-use Rattle.labels.proofs.Tops.{Heads, Seen, place_inside, heads-start, heads-step, heads-end}
+use Rattle.labels.proofs.Tops.{place_inside, heads-start, heads-step, heads-end}
 use Rattle.labels.proofs.heads.Goals as goal
 use Rattle.labels.proofs.heads.Goals.{Start, In-loop-v, After-slice_known-2-1, After-place}
 

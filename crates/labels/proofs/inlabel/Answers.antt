@@ -1,7 +1,5 @@
 -- `labels::inlabel` meets its contract: what is taken from the last number is the rest that the formula leaves out.
 -- Assumes nothing.
-use borrow.Author.Rules.{rules}
-use lib.Bits.{and_le_l}
 use Rattle.tree.specs.Labels.{topmost}
 use Rattle.labels.proofs.Smearing.{cleared}
 use Rattle.labels.proofs.inlabel.Goals as goal

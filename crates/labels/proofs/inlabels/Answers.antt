@@ -2,16 +2,13 @@
 -- Assumes nothing.
 use native.Mathlib.Omega.{arith}
 use borrow.Author.Rules.{rules}
-use Prim.Native.Nat.{◌-◌, ◌≤◌, ◌<◌}
 use mathlib.Core.Path.{refl, ◌∙◌}
 use mathlib.Core.Logic.{inl, inr}
 use lib.Dec.{lit<}
-use lib.ListN.{length}
-use Rattle.tree.specs.Labels.{inlabel}
 use Rattle.tree.proofs.Scans.{by_equal}
 use Rattle.tree.proofs.Columns.{column-same}
 use Rattle.labels.proofs.Labelled.{interval-fits, interval-inlabel}
-use Rattle.preorder.proofs.Filling.{Filling, filling-store}
+use Rattle.preorder.proofs.Filling.{filling-store}
 use Rattle.labels.proofs.inlabels.Goals as goal
 
 pub loop-v-init : goal.loop-v-init

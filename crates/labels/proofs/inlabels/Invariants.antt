@@ -1,17 +1,9 @@
 -- `labels::inlabels` meets its contract: the nodes below v have their INLABEL.
 -- Assumes nothing.
-use native.Mathlib.Omega.{arith}
-use borrow.Author.Rules.{rules}
 use Prim.Native.Nat.{◌-◌, ◌≤◌, ◌<◌}
-use mathlib.Core.Path.{refl, ◌∙◌}
-use mathlib.Core.Logic.{inl, inr}
-use lib.Dec.{lit<}
 use lib.ListN.{length}
 use Rattle.tree.specs.Labels.{inlabel}
-use Rattle.tree.proofs.Scans.{by_equal}
-use Rattle.tree.proofs.Columns.{column-same}
-use Rattle.labels.proofs.Labelled.{interval-fits, interval-inlabel}
-use Rattle.preorder.proofs.Filling.{Filling, filling-store}
+use Rattle.preorder.proofs.Filling.{Filling}
 use Rattle.labels.proofs.inlabels.Given as goal
 
 abbrev pub invariant-loop-v : goal.invariant-loop-v

@@ -1,6 +1,5 @@
 -- `labels::place` meets its contract: the two cases of the definition are the two branches.
 -- Assumes nothing.
-use borrow.Author.Rules.{rules}
 use borrow.Author.Tests.{eq-eqb, ne_eqb}
 use Rattle.labels.proofs.place.Goals as goal
 

@@ -2,7 +2,6 @@
 -- serve.
 -- Assumes nothing.
 use native.Mathlib.Omega.{arith}
-use borrow.Author.Rules.{rules}
 use Prim.Native.Nat.{◌+◌}
 use mathlib.Core.Bool.{true≢false}
 use mathlib.Core.Path.{◌≡◌}

@@ -1,6 +1,5 @@
 -- `leaves::earlier` meets its contract: it says so only where no bit is gathered.
 -- Assumes nothing.
-use borrow.Author.Rules.{rules}
 use borrow.Author.Tests.{eqb-true}
 use mathlib.Core.Bool.{true≢false}
 use mathlib.Core.Path.{sym}

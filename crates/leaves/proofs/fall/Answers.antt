@@ -1,11 +1,9 @@
 -- `leaves::fall` meets its contract: the cells passed hold falling numbers, and beside them their entries.
 -- Assumes nothing.
 use native.Mathlib.Omega.{arith}
-use borrow.Author.Rules.{rules}
-use Prim.Native.Nat.{◌+◌, ◌-◌, ◌*◌, ◌≤◌}
-use mathlib.Core.Path.{◌≡◌, refl, ◌∙◌}
+use Prim.Native.Nat.{◌+◌, ◌-◌, ◌*◌}
+use mathlib.Core.Path.{refl, ◌∙◌}
 use lib.ListN.{length, get_or, set, length-set}
-use Rattle.leaves.specs.Leaves.{Falling}
 use Rattle.leaves.proofs.Ending.{falling-step}
 use Rattle.leaves.proofs.fall.Goals as goal
 

@@ -1,12 +1,9 @@
 -- `leaves::fall` meets its contract: the cells passed hold falling numbers, and beside them their entries.
 -- Assumes nothing.
-use native.Mathlib.Omega.{arith}
-use borrow.Author.Rules.{rules}
-use Prim.Native.Nat.{◌+◌, ◌-◌, ◌*◌, ◌≤◌}
-use mathlib.Core.Path.{◌≡◌, refl, ◌∙◌}
-use lib.ListN.{length, get_or, set, length-set}
+use Prim.Native.Nat.{◌-◌, ◌≤◌}
+use mathlib.Core.Path.{◌≡◌}
+use lib.ListN.{length}
 use Rattle.leaves.specs.Leaves.{Falling}
-use Rattle.leaves.proofs.Ending.{falling-step}
 use Rattle.leaves.proofs.fall.Given as goal
 
 abbrev pub invariant-loop-i : goal.invariant-loop-i

@@ -1,11 +1,10 @@
 -- `leaves::later` meets its contract: while no bit is gathered, no part passed names a later one.
 -- Assumes nothing.
-use Prim.Native.Nat.{ℕ, ◌-◌, ◌≤◌, ◌<◌}
+use Prim.Native.Nat.{◌-◌}
 use native.Mathlib.Omega.{arith}
 use mathlib.Core.Path.{◌≡◌}
 use borrow.Author.Count.{below_more}
-use borrow.Author.Rules.{rules}
-use lib.ListN.{length, get_or}
+use lib.ListN.{get_or}
 use Rattle.cells.proofs.Stretches.{or-none}
 use Rattle.leaves.proofs.later.Goals as goal
 

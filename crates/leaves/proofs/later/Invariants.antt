@@ -1,12 +1,8 @@
 -- `leaves::later` meets its contract: while no bit is gathered, no part passed names a later one.
 -- Assumes nothing.
 use Prim.Native.Nat.{ℕ, ◌-◌, ◌≤◌, ◌<◌}
-use native.Mathlib.Omega.{arith}
 use mathlib.Core.Path.{◌≡◌}
-use borrow.Author.Count.{below_more}
-use borrow.Author.Rules.{rules}
 use lib.ListN.{length, get_or}
-use Rattle.cells.proofs.Stretches.{or-none}
 use Rattle.leaves.proofs.later.Given as goal
 
 abbrev pub invariant-loop-v : goal.invariant-loop-v

@@ -1,6 +1,5 @@
 -- `preorder::numbers` meets its contract: the links are made, and the walk follows them.
 -- Assumes nothing.
-use borrow.Author.Rules.{rules}
 use Rattle.tree.proofs.Columns.{ready-kept}
 use Rattle.preorder.proofs.numbers.Goals as goal
 

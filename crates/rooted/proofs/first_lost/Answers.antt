@@ -2,7 +2,6 @@
 -- Assumes nothing.
 use mathlib.Core.Bool.{true≢false}
 use mathlib.Core.Path.{sym, ◌∙◌}
-use borrow.Author.Rules.{rules}
 use Rattle.rooted.proofs.first_lost.Goals as goal
 
 pub returns-then-ordered : goal.returns-then-ordered

@@ -3,7 +3,6 @@
 use native.Mathlib.Nat.{le_of_eq}
 use native.Mathlib.Omega.{arith}
 use mathlib.Core.Path.{sym, ◌∙◌, subst}
-use borrow.Author.Rules.{rules}
 use Rattle.tree.specs.BottomUp.{OneRoot}
 use Rattle.tree.proofs.BottomUps.{bottom-up-tree}
 use Rattle.rooted.proofs.Losing.{one_passes, none-lost, lost-none}

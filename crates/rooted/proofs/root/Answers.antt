@@ -1,7 +1,6 @@
 -- `rooted::root` meets its contract: the root is the lowest part from 0 on that names itself.
 -- Assumes nothing.
 use mathlib.Core.Path.{sym, ◌∙◌}
-use borrow.Author.Rules.{rules}
 use Rattle.tree.proofs.Roots.{root_of-next}
 use Rattle.rooted.proofs.root.Goals as goal
 

@@ -2,12 +2,8 @@
 -- Assumes nothing.
 use native.Mathlib.Omega.{arith}
 use borrow.Author.Rules.{rules}
-use Prim.Native.Nat.{◌-◌, ◌≤◌}
 use mathlib.Core.Path.{◌≡◌, sym, ◌∙◌}
 use lib.ListN.{length, length-set}
-use Rattle.tree.specs.Buffers.{visits}
-use Rattle.tree.specs.Tour.{tour_table}
-use Rattle.tree.specs.Sections.{Same}
 use Rattle.tree.proofs.Cells.{first_cell}
 use Rattle.tree.proofs.Differences.{same_none, same_store}
 use Rattle.tree.proofs.Tours.{tour-length}

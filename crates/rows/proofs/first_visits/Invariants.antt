@@ -1,17 +1,11 @@
 -- `rows::first_visits` meets its contract: the first v cells of work are the first positions of the nodes below v.
 -- Assumes nothing.
-use native.Mathlib.Omega.{arith}
-use borrow.Author.Rules.{rules}
 use Prim.Native.Nat.{◌-◌, ◌≤◌}
-use mathlib.Core.Path.{◌≡◌, sym, ◌∙◌}
-use lib.ListN.{length, length-set}
+use mathlib.Core.Path.{◌≡◌}
+use lib.ListN.{length}
 use Rattle.tree.specs.Buffers.{visits}
 use Rattle.tree.specs.Tour.{tour_table}
 use Rattle.tree.specs.Sections.{Same}
-use Rattle.tree.proofs.Cells.{first_cell}
-use Rattle.tree.proofs.Differences.{same_none, same_store}
-use Rattle.tree.proofs.Tours.{tour-length}
-use Rattle.rows.proofs.Visited.{Node, node-read}
 use Rattle.rows.proofs.first_visits.Given as goal
 
 abbrev pub invariant-loop-v : goal.invariant-loop-v

@@ -2,11 +2,10 @@
 -- Assumes nothing.
 use native.Mathlib.Omega.{arith}
 use borrow.Author.Rules.{rules}
-use Prim.Native.Nat.{◌-◌, ◌≤◌}
 use mathlib.Core.Path.{◌≡◌, refl, ◌∙◌}
 use lib.ListN.{length, length-set}
 use Rattle.tree.specs.Tree.{parent}
-use Rattle.rows.proofs.Visited.{Node, Visited, node-read, visited-none, visited-more, visited-all}
+use Rattle.rows.proofs.Visited.{Node, node-read, visited-none, visited-more, visited-all}
 use Rattle.rows.proofs.visits.Goals as goal
 use Rattle.rows.proofs.visits.Goals.{In-loop-v}
 

@@ -1,12 +1,9 @@
 -- `rows::visits` meets its contract: the tour's cells of the nodes below v stand, and every cell is a node's.
 -- Assumes nothing.
-use native.Mathlib.Omega.{arith}
-use borrow.Author.Rules.{rules}
 use Prim.Native.Nat.{◌-◌, ◌≤◌}
-use mathlib.Core.Path.{◌≡◌, refl, ◌∙◌}
-use lib.ListN.{length, length-set}
-use Rattle.tree.specs.Tree.{parent}
-use Rattle.rows.proofs.Visited.{Node, Visited, node-read, visited-none, visited-more, visited-all}
+use mathlib.Core.Path.{◌≡◌}
+use lib.ListN.{length}
+use Rattle.rows.proofs.Visited.{Visited}
 use Rattle.rows.proofs.visits.Given as goal
 
 abbrev pub invariant-loop-v : goal.invariant-loop-v

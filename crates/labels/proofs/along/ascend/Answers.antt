@@ -1,12 +1,10 @@
 -- `labels::along::ascend` meets its contract: the two cases of the bit that is added are those of the definition.
 -- Assumes nothing.
-use native.Mathlib.Omega.{arith}
-use borrow.Author.Rules.{rules}
 use Prim.Native.Nat.{ℕ, ◌+◌}
 use mathlib.Core.Path.{ap, ◌∙◌}
 use lib.Dec.{eqb}
 use Rattle.bits.specs.Bits.{lowest_one}
-use Rattle.labels.proofs.Ascending.{add-chosen, chosen-most}
+use Rattle.labels.proofs.Ascending.{add-chosen}
 use Rattle.labels.proofs.along.ascend.Goals as goal
 
 pub returns : goal.returns

@@ -2,14 +2,13 @@
 -- Assumes nothing.
 use native.Mathlib.Omega.{arith}
 use borrow.Author.Rules.{rules}
-use Prim.Native.Nat.{◌-◌, ◌≤◌, ◌<◌}
 use mathlib.Core.Path.{◌≡◌, sym, ap, ◌∙◌}
 use lib.Dec.{lit<}
 use lib.ListN.{length, get_or}
 use Rattle.tree.specs.Labels.{ascendant}
 use Rattle.tree.proofs.Columns.{column-same}
 use Rattle.preorder.proofs.Numbering.{At}
-use Rattle.labels.proofs.InOrder.{Along, Below, along-at, along-root, along-below, along-start, along-step, along-end}
+use Rattle.labels.proofs.InOrder.{Below, along-at, along-root, along-below, along-start, along-step, along-end}
 use Rattle.labels.proofs.Ascending.{ascend-root, ascend-fits, ascend-is}
 use Rattle.labels.proofs.along.ascendants.Goals as goal
 use Rattle.labels.proofs.along.ascendants.Goals.{Start, In-loop-i}

@@ -1,16 +1,9 @@
 -- `labels::along::ascendants` meets its contract: ASCENDANT is made for the first i nodes of the preorder.
 -- Assumes nothing.
-use native.Mathlib.Omega.{arith}
-use borrow.Author.Rules.{rules}
 use Prim.Native.Nat.{◌-◌, ◌≤◌, ◌<◌}
-use mathlib.Core.Path.{◌≡◌, sym, ap, ◌∙◌}
-use lib.Dec.{lit<}
-use lib.ListN.{length, get_or}
+use lib.ListN.{length}
 use Rattle.tree.specs.Labels.{ascendant}
-use Rattle.tree.proofs.Columns.{column-same}
-use Rattle.preorder.proofs.Numbering.{At}
-use Rattle.labels.proofs.InOrder.{Along, Below, along-at, along-root, along-below, along-start, along-step, along-end}
-use Rattle.labels.proofs.Ascending.{ascend-root, ascend-fits, ascend-is}
+use Rattle.labels.proofs.InOrder.{Along}
 use Rattle.labels.proofs.along.ascendants.Given as goal
 
 abbrev pub invariant-loop-i : goal.invariant-loop-i

@@ -2,7 +2,6 @@
 -- Assumes nothing.
 use native.Mathlib.Omega.{arith}
 use borrow.Author.Rules.{rules}
-use Prim.Native.Nat.{◌-◌, ◌≤◌, ◌<◌}
 use mathlib.Core.Path.{◌≡◌, sym, ap, ◌∙◌}
 use lib.Dec.{lit<}
 use lib.ListN.{length, get_or}
@@ -10,7 +9,7 @@ use Rattle.tree.specs.Tree.{parent, level}
 use Rattle.tree.proofs.Trees.{level-root, level-parent, level-below}
 use Rattle.tree.proofs.Columns.{column-same}
 use Rattle.preorder.proofs.Numbering.{At}
-use Rattle.labels.proofs.InOrder.{Along, Below, along-at, along-root, along-below, along-start, along-step, along-end}
+use Rattle.labels.proofs.InOrder.{Below, along-at, along-root, along-below, along-start, along-step, along-end}
 use Rattle.labels.proofs.along.levels.Goals as goal
 use Rattle.labels.proofs.along.levels.Goals.{After-slice_known-in-loop-i-1, After-slice_known-1}
 

@@ -2,11 +2,10 @@
 -- Assumes nothing.
 use native.Mathlib.Omega.{arith}
 use borrow.Author.Rules.{rules}
-use Prim.Native.Nat.{◌-◌, ◌≤◌}
 use mathlib.Core.Path.{◌≡◌}
 use lib.ListN.{length}
 use Rattle.labels.proofs.Labelled.{Number, number}
-use Rattle.labels.proofs.InOrder.{Listed, listed_start, listed-step, listed-end}
+use Rattle.labels.proofs.InOrder.{listed_start, listed-step, listed-end}
 use Rattle.labels.proofs.along.order.Goals as goal
 use Rattle.labels.proofs.along.order.Goals.{After-shared_slice_known-1}
 

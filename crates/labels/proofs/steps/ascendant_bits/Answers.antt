@@ -1,13 +1,9 @@
 -- `labels::steps::ascendant_bits` meets its contract: where no bit is gathered, ASCENDANT follows the parents' to each node before v.
 -- Assumes nothing.
 use native.Mathlib.Omega.{arith}
-use borrow.Author.Rules.{rules}
-use Prim.Native.Nat.{ℕ, ◌+◌, ◌-◌, ◌*◌}
-use lib.ListN.{length, get_or}
 use Rattle.tree.specs.Tree.{parent}
-use Rattle.labels.specs.Steps.{ascendant_step}
 use Rattle.preorder.proofs.Parents.{Cells}
-use Rattle.labels.proofs.Stepping.{Gathered, step-cells, gathered-start, gathered-step, gathered-end}
+use Rattle.labels.proofs.Stepping.{step-cells, gathered-start, gathered-step, gathered-end}
 use Rattle.labels.proofs.steps.ascendant_bits.Goals as goal
 use Rattle.labels.proofs.steps.ascendant_bits.Goals.{In-loop-v, After-shared_slice_known-in-loop-v-5-1}
 

@@ -1,13 +1,9 @@
 -- `labels::steps::level_bits` meets its contract: where no bit is gathered, LEVEL rises by one to each node before v.
 -- Assumes nothing.
 use native.Mathlib.Omega.{arith}
-use borrow.Author.Rules.{rules}
-use Prim.Native.Nat.{ℕ, ◌+◌, ◌-◌, ◌*◌}
 use mathlib.Core.Path.{refl}
-use lib.ListN.{length, get_or}
-use Rattle.labels.specs.Steps.{level_step}
 use Rattle.preorder.proofs.Parents.{Cells}
-use Rattle.labels.proofs.Stepping.{Gathered, step-cells, gathered-start, gathered-step, gathered-end}
+use Rattle.labels.proofs.Stepping.{step-cells, gathered-start, gathered-step, gathered-end}
 use Rattle.labels.proofs.steps.level_bits.Goals as goal
 use Rattle.labels.proofs.steps.level_bits.Goals.{In-loop-v, After-shared_slice_known-in-loop-v-2-1}
 

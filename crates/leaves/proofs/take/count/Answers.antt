@@ -1,13 +1,12 @@
 -- `leaves::take::count` meets its contract: each part is one more that names its entry.
 -- Assumes nothing.
 use native.Mathlib.Omega.{arith}
-use borrow.Author.Rules.{rules}
-use Prim.Native.Nat.{ℕ, ◌+◌, ◌-◌, ◌≤◌, ◌<◌}
+use Prim.Native.Nat.{ℕ, ◌+◌, ◌<◌}
 use mathlib.Core.Path.{◌≡◌, refl, ◌∙◌}
 use mathlib.Core.List.{List}
 use lib.ListN.{length, get_or, length-set}
 use Rattle.tree.proofs.Scans.{count_most}
-use Rattle.leaves.specs.Leaves.{Wooded, names, Named}
+use Rattle.leaves.specs.Leaves.{Wooded, names}
 use Rattle.leaves.proofs.Naming.{wooded-same, entry-part, named_step}
 use Rattle.leaves.proofs.take.count.Goals as goal
 use Rattle.leaves.proofs.take.count.Goals.{After-shared_slice_known-1}

@@ -1,14 +1,9 @@
 -- `leaves::take::count` meets its contract: each part is one more that names its entry.
 -- Assumes nothing.
-use native.Mathlib.Omega.{arith}
-use borrow.Author.Rules.{rules}
-use Prim.Native.Nat.{ℕ, ◌+◌, ◌-◌, ◌≤◌, ◌<◌}
-use mathlib.Core.Path.{◌≡◌, refl, ◌∙◌}
-use mathlib.Core.List.{List}
-use lib.ListN.{length, get_or, length-set}
-use Rattle.tree.proofs.Scans.{count_most}
-use Rattle.leaves.specs.Leaves.{Wooded, names, Named}
-use Rattle.leaves.proofs.Naming.{wooded-same, entry-part, named_step}
+use Prim.Native.Nat.{◌-◌, ◌≤◌}
+use mathlib.Core.Path.{◌≡◌}
+use lib.ListN.{length}
+use Rattle.leaves.specs.Leaves.{Named}
 use Rattle.leaves.proofs.take.count.Given as goal
 
 abbrev pub invariant-loop-v : goal.invariant-loop-v

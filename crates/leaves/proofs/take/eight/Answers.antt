@@ -3,7 +3,6 @@
 use Prim.Native.Nat.{ℕ, ◌+◌, ◌<◌}
 use native.Mathlib.Omega.{arith}
 use mathlib.Core.Path.{◌≡◌, ap, ◌∙◌}
-use borrow.Author.Rules.{rules}
 use lib.ListN.{length, get_or}
 use Rattle.leaves.specs.Leaves.{entry_at}
 use Rattle.leaves.proofs.Waits.{waiting-first, waiting-later, waiting-part, entry_kept, took-both}

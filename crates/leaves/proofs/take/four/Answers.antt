@@ -3,9 +3,8 @@
 use Prim.Native.Nat.{◌+◌}
 use native.Mathlib.Omega.{arith}
 use mathlib.Core.Path.{◌≡◌, ap, ◌∙◌}
-use borrow.Author.Rules.{rules}
 use Rattle.leaves.specs.Leaves.{entry_at}
-use Rattle.leaves.proofs.Waits.{waiting-first, waiting-later, waiting-part, entry_kept, took-both}
+use Rattle.leaves.proofs.Waits.{waiting-first, waiting-later, entry_kept, took-both}
 use Rattle.leaves.proofs.take.four.Goals as goal
 
 pub two-half-requires : goal.two-half-requires

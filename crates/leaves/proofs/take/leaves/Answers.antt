@@ -1,7 +1,6 @@
 -- `leaves::take::leaves` meets its contract: each function begins with what the one before it left in work.
 -- Assumes nothing.
 use native.Mathlib.Omega.{arith}
-use borrow.Author.Rules.{rules}
 use Rattle.leaves.specs.Leaves.{Wooded}
 use Rattle.leaves.proofs.Naming.{wooded-same, named_start}
 use Rattle.leaves.proofs.take.leaves.Goals as goal

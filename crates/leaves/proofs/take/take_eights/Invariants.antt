@@ -1,13 +1,9 @@
 -- `leaves::take::take_eights` meets its contract: the place is a multiple of eight.
 -- Assumes nothing.
-use Prim.Native.Nat.{◌-◌, ◌*◌, ◌/◌, ◌%◌}
-use native.Mathlib.Omega.{arith}
-use mathlib.Core.Path.{◌≡◌, refl, ◌∙◌}
+use Prim.Native.Nat.{◌-◌, ◌%◌}
+use mathlib.Core.Path.{◌≡◌}
 use lib.ListN.{length}
-use Rattle.leaves.specs.Leaves.{Taking, Waiting}
-use Rattle.leaves.proofs.Naming.{wooded-same}
-use Rattle.leaves.proofs.Taken.{found_below}
-use Rattle.leaves.proofs.Waits.{waiting-part}
+use Rattle.leaves.specs.Leaves.{Taking}
 use Rattle.leaves.proofs.take.take_eights.Given as goal
 
 abbrev pub invariant-loop-at : goal.invariant-loop-at

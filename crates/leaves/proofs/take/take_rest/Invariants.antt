@@ -1,14 +1,10 @@
 -- `leaves::take::take_rest` meets its contract: the first part in the order that is not taken is taken, and the one after it was read beforehand.
 -- Assumes nothing.
-use Prim.Native.Nat.{ℕ, ◌+◌, ◌-◌, ◌≤◌, ◌<◌}
-use native.Mathlib.Omega.{arith}
-use mathlib.Core.Path.{◌≡◌, refl, ap, ◌∙◌}
-use borrow.Author.Rules.{rules}
-use lib.ListN.{length, get_or}
-use Rattle.leaves.specs.Leaves.{Taking, Waiting}
-use Rattle.leaves.proofs.Naming.{wooded-same}
-use Rattle.leaves.proofs.Taken.{found_below}
-use Rattle.leaves.proofs.Waits.{NextIs, next-is, waiting-part}
+use Prim.Native.Nat.{◌-◌}
+use mathlib.Core.Path.{◌≡◌}
+use lib.ListN.{length}
+use Rattle.leaves.specs.Leaves.{Taking}
+use Rattle.leaves.proofs.Waits.{NextIs}
 use Rattle.leaves.proofs.take.take_rest.Given as goal
 
 abbrev pub invariant-loop-at : goal.invariant-loop-at

@@ -1,8 +1,7 @@
 -- `leaves::take::two` meets its contract: one after the other.
 -- Assumes nothing.
 use native.Mathlib.Omega.{arith}
-use borrow.Author.Rules.{rules}
-use Rattle.leaves.proofs.Waits.{waiting-first, waiting-later, waiting-part, entry_kept, took-both}
+use Rattle.leaves.proofs.Waits.{waiting-first, waiting-later, entry_kept, took-both}
 use Rattle.leaves.proofs.take.two.Goals as goal
 
 pub one-half-requires : goal.one-half-requires

@@ -1,11 +1,9 @@
 -- `leaves::take::unnamed` meets its contract: of the parts passed, those that none names are in the order.
 -- Assumes nothing.
-use native.Mathlib.Omega.{arith}
-use borrow.Author.Rules.{rules}
 use Prim.Native.Nat.{◌-◌}
-use mathlib.Core.Path.{◌≡◌, refl, ◌∙◌}
-use lib.ListN.{length, length-set}
-use Rattle.leaves.proofs.Naming.{Seeding, seeding-start, seeding-step, seeding-end}
+use mathlib.Core.Path.{◌≡◌}
+use lib.ListN.{length}
+use Rattle.leaves.proofs.Naming.{Seeding}
 use Rattle.leaves.proofs.take.unnamed.Given as goal
 
 abbrev pub invariant-loop-v : goal.invariant-loop-v

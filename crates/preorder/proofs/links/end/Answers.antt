@@ -1,6 +1,5 @@
 -- `preorder::links::end` meets its contract: the two cases of the definition are the two branches.
 -- Assumes nothing.
-use borrow.Author.Rules.{rules}
 use borrow.Author.Tests.{lt-ltb, le-ltb}
 use Rattle.preorder.proofs.links.end.Goals as goal
 

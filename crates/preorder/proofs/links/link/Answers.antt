@@ -2,12 +2,12 @@
 -- Assumes nothing.
 use native.Mathlib.Omega.{arith}
 use borrow.Author.Rules.{rules}
-use Prim.Native.Nat.{suc, ◌-◌, ◌≤◌, ◌<◌}
+use Prim.Native.Nat.{suc, ◌-◌, ◌<◌}
 use mathlib.Core.Path.{◌≡◌}
 use lib.ListN.{length, get_or, length-set}
 use Rattle.tree.specs.Tree.{parent}
 use Rattle.tree.proofs.Columns.{ready-kept}
-use Rattle.preorder.proofs.Linking.{Linking, linking-start, linking-root, linking-child, linking-end}
+use Rattle.preorder.proofs.Linking.{linking-start, linking-root, linking-child, linking-end}
 use Rattle.preorder.proofs.links.link.Goals as goal
 use Rattle.preorder.proofs.links.link.Goals.{In-loop-i}
 

@@ -2,10 +2,9 @@
 -- Assumes nothing.
 use native.Mathlib.Omega.{arith}
 use borrow.Author.Rules.{rules}
-use Prim.Native.Nat.{◌+◌, ◌-◌, ◌*◌, ◌≤◌}
 use mathlib.Core.Path.{◌≡◌}
 use lib.ListN.{length}
-use Rattle.preorder.proofs.Walking.{Measuring, measuring-start, measuring-ends, measuring-step, measuring-end}
+use Rattle.preorder.proofs.Walking.{measuring-start, measuring-ends, measuring-step, measuring-end}
 use Rattle.preorder.proofs.links.measure.Goals as goal
 
 pub loop-v-init : goal.loop-v-init

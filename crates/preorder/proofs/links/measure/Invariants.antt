@@ -1,11 +1,8 @@
 -- `preorder::links::measure` meets its contract: the nodes below v have their SIZE.
 -- Assumes nothing.
-use native.Mathlib.Omega.{arith}
-use borrow.Author.Rules.{rules}
-use Prim.Native.Nat.{◌+◌, ◌-◌, ◌*◌, ◌≤◌}
-use mathlib.Core.Path.{◌≡◌}
+use Prim.Native.Nat.{◌-◌, ◌≤◌}
 use lib.ListN.{length}
-use Rattle.preorder.proofs.Walking.{Measuring, measuring-start, measuring-ends, measuring-step, measuring-end}
+use Rattle.preorder.proofs.Walking.{Measuring}
 use Rattle.preorder.proofs.links.measure.Given as goal
 
 abbrev pub invariant-loop-v : goal.invariant-loop-v

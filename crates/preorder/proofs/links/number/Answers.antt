@@ -2,13 +2,12 @@
 -- Assumes nothing.
 use native.Mathlib.Omega.{arith}
 use borrow.Author.Rules.{rules}
-use Prim.Native.Nat.{◌-◌, ◌≤◌, ◌<◌}
+use Prim.Native.Nat.{◌<◌}
 use mathlib.Core.Path.{◌≡◌}
 use lib.ListN.{length, get_or, length-set}
 use Rattle.tree.specs.Tree.{parent}
-use Rattle.preorder.specs.Walk.{node_at}
 use Rattle.preorder.proofs.Parents.{the-root}
-use Rattle.preorder.proofs.Walking.{Walking, walking_start, walking-node, walking-step, walking-next, walking-end}
+use Rattle.preorder.proofs.Walking.{walking_start, walking-node, walking-step, walking-next, walking-end}
 use Rattle.preorder.proofs.links.number.Goals as goal
 use Rattle.preorder.proofs.links.number.Goals.{Start, In-loop-k}
 

@@ -1,14 +1,10 @@
 -- `preorder::links::number` meets its contract: k nodes are numbered, and v is the next.
 -- Assumes nothing.
-use native.Mathlib.Omega.{arith}
-use borrow.Author.Rules.{rules}
-use Prim.Native.Nat.{◌-◌, ◌≤◌, ◌<◌}
+use Prim.Native.Nat.{◌-◌, ◌≤◌}
 use mathlib.Core.Path.{◌≡◌}
-use lib.ListN.{length, get_or, length-set}
-use Rattle.tree.specs.Tree.{parent}
+use lib.ListN.{length}
 use Rattle.preorder.specs.Walk.{node_at}
-use Rattle.preorder.proofs.Parents.{the-root}
-use Rattle.preorder.proofs.Walking.{Walking, walking_start, walking-node, walking-step, walking-next, walking-end}
+use Rattle.preorder.proofs.Walking.{Walking}
 use Rattle.preorder.proofs.links.number.Given as goal
 
 abbrev pub invariant-loop-k : goal.invariant-loop-k

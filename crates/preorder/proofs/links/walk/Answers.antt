@@ -1,6 +1,5 @@
 -- `preorder::links::walk` meets its contract: the nodes are numbered, and then measured.
 -- Assumes nothing.
-use borrow.Author.Rules.{rules}
 use Rattle.tree.proofs.Columns.{ready-kept}
 use Rattle.preorder.proofs.links.walk.Goals as goal
 

@@ -2,14 +2,13 @@
 -- Assumes nothing.
 use native.Mathlib.Omega.{arith}
 use borrow.Author.Rules.{rules}
-use Prim.Native.Nat.{ℕ, ◌+◌, ◌-◌, ◌*◌, ◌≤◌, ◌<◌}
+use Prim.Native.Nat.{ℕ, ◌+◌, ◌*◌, ◌<◌}
 use native.Mathlib.Numerals.{add-one}
 use mathlib.Core.Path.{◌≡◌, ap, ◌∙◌}
 use mathlib.Core.List.{List}
 use lib.ListN.{length, get_or, length-set}
 use Rattle.tree.specs.Tree.{parent}
 use Rattle.cells.proofs.Stretches.{no_bits}
-use Rattle.preorder.specs.Sums.{Sums, Numbered}
 use Rattle.preorder.proofs.Parents.{Cells, cells_at}
 use Rattle.preorder.proofs.Summing.{sums-more, numbered-none, numbered_more}
 use Rattle.preorder.proofs.sums.add.Goals as goal

@@ -1,10 +1,9 @@
 -- `rooted::jumps::first_cycle` meets its contract: every link is as many steps up as have been counted, or more.
 -- Assumes nothing.
-use Prim.Native.Nat.{◌*◌, ◌-◌, ◌≤◌, zero-le}
+use Prim.Native.Nat.{◌*◌, zero-le}
 use native.Mathlib.Omega.{arith}
-use mathlib.Core.Path.{◌≡◌, ◌∙◌}
+use mathlib.Core.Path.{◌∙◌}
 use borrow.Author.Rules.{rules}
-use lib.ListN.{length}
 use Rattle.rooted.specs.Jumps.{Links}
 use Rattle.rooted.proofs.Jumping.{links-start, links-twice, links-less, no-cycle}
 use Rattle.rooted.proofs.jumps.first_cycle.Goals as goal

@@ -1,14 +1,9 @@
 -- `rooted::jumps::first_unrooted` meets its contract: the climbs of the parts passed meet the root.
 -- Assumes nothing.
-use Prim.Native.Nat.{ℕ, ◌-◌, ◌≤◌, ◌<◌}
 use native.Mathlib.Nat.{not-suc-le-zero}
 use native.Mathlib.Omega.{arith}
-use mathlib.Core.Bool.{true}
-use mathlib.Core.Path.{◌≡◌}
 use borrow.Author.Count.{below_more}
 use borrow.Author.Rules.{rules}
-use lib.ListN.{length}
-use Rattle.tree.specs.Tree.{climb, is_root}
 use Rattle.tree.proofs.Places.{cycle-place}
 use Rattle.rooted.proofs.Jumping.{linked-root, linked-elsewhere}
 use Rattle.rooted.proofs.jumps.first_unrooted.Goals as goal

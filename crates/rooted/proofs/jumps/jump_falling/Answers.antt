@@ -1,7 +1,6 @@
 -- `rooted::jumps::jump_falling` meets its contract: the pass has yet to come to the parts below v.
 -- Assumes nothing.
-use borrow.Author.Rules.{rules}
-use Rattle.rooted.proofs.Jumping.{Jumping, jumping-start, last-inside, jumping-fall, jumping-end}
+use Rattle.rooted.proofs.Jumping.{jumping-start, last-inside, jumping-fall, jumping-end}
 use Rattle.rooted.proofs.jumps.jump_falling.Goals as goal
 
 pub loop-v-init : goal.loop-v-init

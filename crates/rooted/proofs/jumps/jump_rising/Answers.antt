@@ -1,9 +1,6 @@
 -- `rooted::jumps::jump_rising` meets its contract: the pass has yet to come to the parts from v on.
 -- Assumes nothing.
-use Prim.Native.Nat.{◌-◌}
-use borrow.Author.Rules.{rules}
-use lib.ListN.{length}
-use Rattle.rooted.proofs.Jumping.{Jumping, jumping-start, first-inside, jumping-rise, jumping-end}
+use Rattle.rooted.proofs.Jumping.{jumping-start, first-inside, jumping-rise, jumping-end}
 use Rattle.rooted.proofs.jumps.jump_rising.Goals as goal
 
 pub loop-v-init : goal.loop-v-init

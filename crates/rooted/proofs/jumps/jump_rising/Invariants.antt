@@ -1,9 +1,8 @@
 -- `rooted::jumps::jump_rising` meets its contract: the pass has yet to come to the parts from v on.
 -- Assumes nothing.
 use Prim.Native.Nat.{◌-◌}
-use borrow.Author.Rules.{rules}
 use lib.ListN.{length}
-use Rattle.rooted.proofs.Jumping.{Jumping, jumping-start, first-inside, jumping-rise, jumping-end}
+use Rattle.rooted.proofs.Jumping.{Jumping}
 use Rattle.rooted.proofs.jumps.jump_rising.Given as goal
 
 abbrev pub invariant-loop-v : goal.invariant-loop-v

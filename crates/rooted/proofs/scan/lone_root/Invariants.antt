@@ -1,13 +1,8 @@
 -- `rooted::scan::lone_root` meets its contract: where one part was found that names itself, and no entry too large, it is the one root.
 -- Assumes nothing.
 use Prim.Native.Nat.{◌-◌, ◌<◌}
-use native.Mathlib.Omega.{arith}
-use borrow.Author.Rules.{rules}
-use lib.Dec.{lit<}
 use lib.ListN.{length}
-use Rattle.tree.specs.Tree.{is_root}
-use Rattle.tree.proofs.Scans.{count_most}
-use Rattle.rooted.proofs.Surveying.{Surveyed, surveyed-start, surveyed-step, surveyed-end, surveyed-one}
+use Rattle.rooted.proofs.Surveying.{Surveyed}
 use Rattle.rooted.proofs.scan.lone_root.Given as goal
 
 abbrev pub invariant-loop-v : goal.invariant-loop-v

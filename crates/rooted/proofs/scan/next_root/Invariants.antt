@@ -1,12 +1,8 @@
 -- `rooted::scan::next_root` meets its contract: no part passed names itself.
 -- Assumes nothing.
 use Prim.Native.Nat.{ℕ, ◌-◌, ◌≤◌, ◌<◌}
-use native.Mathlib.Omega.{arith}
-use borrow.Author.Count.{below_more}
-use borrow.Author.Rules.{rules}
 use lib.ListN.{length, get_or}
 use mathlib.Core.Logic.{◌≢◌}
-use Rattle.tree.proofs.Places.{next_root-place}
 use Rattle.rooted.proofs.scan.next_root.Given as goal
 
 abbrev pub invariant-loop-v : goal.invariant-loop-v

@@ -3,7 +3,6 @@
 use native.Mathlib.Nat.{le_refl}
 use native.Mathlib.Numerals.{add-one}
 use native.Mathlib.Omega.{arith}
-use borrow.Author.Rules.{rules}
 use Rattle.tree.proofs.Places.{next_root-place}
 use Rattle.rooted.proofs.scan.second_root.Goals as goal
 

@@ -1,7 +1,6 @@
 -- `rows::lifts::agree_lift` meets its contract: where no bit differs, all agree.
 -- Assumes nothing.
 use native.Mathlib.Omega.{arith}
-use borrow.Author.Rules.{rules}
 use native.Mathlib.Nat.{le_refl}
 use Rattle.cells.proofs.Stretches.{agree_same}
 use Rattle.rows.proofs.Doubled.{next-room}

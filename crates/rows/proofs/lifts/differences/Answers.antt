@@ -1,7 +1,6 @@
 -- `rows::lifts::differences` meets its contract: a row of one node alone is followed by another.
 -- Assumes nothing.
 use native.Mathlib.Omega.{arith}
-use borrow.Author.Rules.{rules}
 use mathlib.Core.Path.{sym, ◌∙◌}
 use Rattle.rows.proofs.Doubled.{row_room, next-room, one-next}
 use Rattle.rows.proofs.lifts.differences.Goals as goal

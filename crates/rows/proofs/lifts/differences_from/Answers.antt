@@ -3,9 +3,6 @@
 use native.Mathlib.Omega.{arith}
 use borrow.Author.Rules.{rules}
 use borrow.Author.Count.{below_more}
-use Prim.Native.Nat.{ℕ, ◌+◌, ◌-◌, ◌≤◌, ◌<◌}
-use mathlib.Core.Path.{◌≡◌}
-use lib.ListN.{get_or}
 use Rattle.cells.proofs.Stretches.{no_bits}
 use Rattle.rows.proofs.lifts.differences_from.Goals as goal
 

@@ -1,12 +1,8 @@
 -- `rows::lifts::differences_from` meets its contract: where no bit is gathered, the first v cells hold the value.
 -- Assumes nothing.
-use native.Mathlib.Omega.{arith}
-use borrow.Author.Rules.{rules}
-use borrow.Author.Count.{below_more}
 use Prim.Native.Nat.{ℕ, ◌+◌, ◌-◌, ◌≤◌, ◌<◌}
 use mathlib.Core.Path.{◌≡◌}
 use lib.ListN.{get_or}
-use Rattle.cells.proofs.Stretches.{no_bits}
 use Rattle.rows.proofs.lifts.differences_from.Given as goal
 
 abbrev pub invariant-loop-v : goal.invariant-loop-v

@@ -1,8 +1,7 @@
 -- `rows::lifts::next_lift` meets its contract: a row of one node alone is the next row too.
 -- Assumes nothing.
 use native.Mathlib.Omega.{arith}
-use borrow.Author.Rules.{rules}
-use Rattle.rows.proofs.Doubled.{doubled, row_room, one-node}
+use Rattle.rows.proofs.Doubled.{row_room, one-node}
 use Rattle.rows.proofs.lifts.next_lift.Goals as goal
 
 pub differences_from-requires : goal.differences_from-requires

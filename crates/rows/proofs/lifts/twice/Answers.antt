@@ -2,11 +2,8 @@
 -- Assumes nothing.
 use native.Mathlib.Omega.{arith}
 use borrow.Author.Rules.{rules}
-use Prim.Native.Nat.{◌+◌, ◌-◌, ◌≤◌}
 use mathlib.Core.Path.{◌≡◌}
 use lib.ListN.{length, length-set}
-use Rattle.tree.specs.Lifts.{lift_table}
-use Rattle.tree.specs.Sections.{Same}
 use Rattle.tree.proofs.Differences.{same_none, same_store}
 use Rattle.rows.proofs.Doubled.{Doubled, doubled}
 use Rattle.rows.proofs.lifts.twice.Goals as goal

@@ -1,14 +1,10 @@
 -- `rows::lifts::twice` meets its contract: the first v cells of work are the next row's.
 -- Assumes nothing.
-use native.Mathlib.Omega.{arith}
-use borrow.Author.Rules.{rules}
 use Prim.Native.Nat.{◌+◌, ◌-◌, ◌≤◌}
 use mathlib.Core.Path.{◌≡◌}
-use lib.ListN.{length, length-set}
+use lib.ListN.{length}
 use Rattle.tree.specs.Lifts.{lift_table}
 use Rattle.tree.specs.Sections.{Same}
-use Rattle.tree.proofs.Differences.{same_none, same_store}
-use Rattle.rows.proofs.Doubled.{Doubled, doubled}
 use Rattle.rows.proofs.lifts.twice.Given as goal
 
 abbrev pub invariant-loop-v : goal.invariant-loop-v

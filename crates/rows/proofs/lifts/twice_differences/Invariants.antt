@@ -1,16 +1,10 @@
 -- `rows::lifts::twice_differences` meets its contract: where no bit is gathered, the next row's first v cells are the sheet's own.
 -- Assumes nothing.
-use native.Mathlib.Omega.{arith}
-use borrow.Author.Rules.{rules}
 use Prim.Native.Nat.{◌+◌, ◌-◌, ◌≤◌}
-use native.Mathlib.Numerals.{add-one}
-use mathlib.Core.Path.{◌≡◌, ◌∙◌}
+use mathlib.Core.Path.{◌≡◌}
 use lib.ListN.{length}
 use Rattle.tree.specs.Lifts.{lift_table}
 use Rattle.tree.specs.Sections.{Same}
-use Rattle.tree.proofs.Differences.{same_none, same_more}
-use Rattle.cells.proofs.Stretches.{no_bits}
-use Rattle.rows.proofs.Doubled.{Doubled, doubled, next-room}
 use Rattle.rows.proofs.lifts.twice_differences.Given as goal
 
 abbrev pub invariant-loop-v : goal.invariant-loop-v

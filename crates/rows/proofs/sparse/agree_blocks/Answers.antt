@@ -2,16 +2,11 @@
 -- Assumes nothing.
 use native.Mathlib.Omega.{arith}
 use borrow.Author.Rules.{rules}
-use Prim.Native.Nat.{◌+◌, ◌-◌, ◌*◌, ◌≤◌}
 use native.Mathlib.Nat.{le_refl}
 use native.Mathlib.Numerals.{add-one}
-use mathlib.Core.Path.{◌≡◌, refl, sym, ◌∙◌}
-use lib.ListN.{length}
-use Rattle.tree.specs.Buffers.{visits}
-use Rattle.tree.specs.Tour.{tour_table}
-use Rattle.tree.specs.Sections.{Same}
+use mathlib.Core.Path.{refl, sym, ◌∙◌}
 use Rattle.tree.proofs.Differences.{same_none, same_more}
-use Rattle.rows.proofs.Halves.{next-room, two_blocks}
+use Rattle.rows.proofs.Halves.{two_blocks}
 use Rattle.rows.proofs.sparse.agree_blocks.Goals as goal
 
 pub returns-then-differences-eq0 : goal.returns-then-differences-eq0

@@ -1,17 +1,10 @@
 -- `rows::sparse::agree_blocks` meets its contract: the i cells passed are the sheet's own.
 -- Assumes nothing.
-use native.Mathlib.Omega.{arith}
-use borrow.Author.Rules.{rules}
 use Prim.Native.Nat.{◌+◌, ◌-◌, ◌*◌, ◌≤◌}
-use native.Mathlib.Nat.{le_refl}
-use native.Mathlib.Numerals.{add-one}
-use mathlib.Core.Path.{◌≡◌, refl, sym, ◌∙◌}
 use lib.ListN.{length}
 use Rattle.tree.specs.Buffers.{visits}
 use Rattle.tree.specs.Tour.{tour_table}
 use Rattle.tree.specs.Sections.{Same}
-use Rattle.tree.proofs.Differences.{same_none, same_more}
-use Rattle.rows.proofs.Halves.{next-room, two_blocks}
 use Rattle.rows.proofs.sparse.agree_blocks.Given as goal
 
 abbrev pub invariant-loop-i : goal.invariant-loop-i

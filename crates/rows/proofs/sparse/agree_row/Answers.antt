@@ -1,7 +1,6 @@
 -- `rows::sparse::agree_row` meets its contract: the blocks that pass the end are compared with filled cells of work, beside the levels.
 -- Assumes nothing.
 use native.Mathlib.Omega.{arith}
-use borrow.Author.Rules.{rules}
 use Prim.Native.Nat.{◌-◌, ◌*◌}
 use Rattle.rows.proofs.Heights.{inside, levels-filled}
 use Rattle.rows.proofs.Halves.{next-room, agree-before, agree_after}

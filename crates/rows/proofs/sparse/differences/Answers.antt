@@ -2,16 +2,13 @@
 -- Assumes nothing.
 use native.Mathlib.Omega.{arith}
 use borrow.Author.Rules.{rules}
-use Prim.Native.Nat.{◌+◌, ◌-◌, ◌*◌, ◌≤◌}
+use Prim.Native.Nat.{◌-◌, ◌*◌}
 use native.Mathlib.Numerals.{add-one}
 use mathlib.Core.Path.{◌≡◌, refl, ◌∙◌}
 use lib.ListN.{length}
-use Rattle.tree.specs.Buffers.{visits}
-use Rattle.tree.specs.Tour.{tour_table}
-use Rattle.tree.specs.Sections.{Same}
 use Rattle.tree.proofs.Differences.{same_none, same_more}
 use Rattle.cells.proofs.Stretches.{no_bits}
-use Rattle.rows.proofs.Halves.{next-room, two_blocks}
+use Rattle.rows.proofs.Halves.{two_blocks}
 use Rattle.rows.proofs.sparse.differences.Goals as goal
 
 pub loop-i-init : goal.loop-i-init

@@ -1,17 +1,11 @@
 -- `rows::sparse::differences` meets its contract: where no bit is gathered, the first i cells are the sheet's own.
 -- Assumes nothing.
-use native.Mathlib.Omega.{arith}
-use borrow.Author.Rules.{rules}
 use Prim.Native.Nat.{◌+◌, ◌-◌, ◌*◌, ◌≤◌}
-use native.Mathlib.Numerals.{add-one}
-use mathlib.Core.Path.{◌≡◌, refl, ◌∙◌}
+use mathlib.Core.Path.{◌≡◌}
 use lib.ListN.{length}
 use Rattle.tree.specs.Buffers.{visits}
 use Rattle.tree.specs.Tour.{tour_table}
 use Rattle.tree.specs.Sections.{Same}
-use Rattle.tree.proofs.Differences.{same_none, same_more}
-use Rattle.cells.proofs.Stretches.{no_bits}
-use Rattle.rows.proofs.Halves.{next-room, two_blocks}
 use Rattle.rows.proofs.sparse.differences.Given as goal
 
 abbrev pub invariant-loop-i : goal.invariant-loop-i

@@ -1,16 +1,11 @@
 -- `rows::sparse::fill_row` meets its contract: the table is the sheet's own up to the next row's first i cells; then come the blocks that pass the end.
 -- Assumes nothing.
-use native.Mathlib.Omega.{arith}
-use borrow.Author.Rules.{rules}
 use Prim.Native.Nat.{◌+◌, ◌-◌, ◌*◌, ◌≤◌}
-use native.Mathlib.Nat.{zero-add}
-use mathlib.Core.Path.{◌≡◌, ◌∙◌}
-use lib.ListN.{length, get_or, length-set}
+use mathlib.Core.Path.{◌≡◌}
+use lib.ListN.{length}
 use Rattle.tree.specs.Buffers.{visits}
 use Rattle.tree.specs.Tour.{tour_table}
 use Rattle.tree.specs.Sections.{Same}
-use Rattle.tree.proofs.Differences.{same_store}
-use Rattle.rows.proofs.Halves.{next-room, two_blocks, row-filled}
 use Rattle.rows.proofs.sparse.fill_row.Given as goal
 
 abbrev pub invariant-loop-i : goal.invariant-loop-i

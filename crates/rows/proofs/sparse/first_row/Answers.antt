@@ -2,11 +2,10 @@
 -- Assumes nothing.
 use native.Mathlib.Omega.{arith}
 use borrow.Author.Rules.{rules}
-use Prim.Native.Nat.{◌-◌, ◌≤◌}
 use mathlib.Core.Path.{◌≡◌}
 use lib.ListN.{length, length-set}
 use Rattle.tree.specs.Buffers.{visits}
-use Rattle.rows.proofs.FirstRow.{FirstRow, Stop, stop, first-row-none, first-row-more, first-levels}
+use Rattle.rows.proofs.FirstRow.{Stop, stop, first-row-none, first-row-more, first-levels}
 use Rattle.rows.proofs.sparse.first_row.Goals as goal
 use Rattle.rows.proofs.sparse.first_row.Goals.{In-loop-i}
 

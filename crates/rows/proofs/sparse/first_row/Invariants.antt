@@ -1,12 +1,10 @@
 -- `rows::sparse::first_row` meets its contract: the row's first i cells and the levels at the first i positions stand.
 -- Assumes nothing.
-use native.Mathlib.Omega.{arith}
-use borrow.Author.Rules.{rules}
 use Prim.Native.Nat.{◌-◌, ◌≤◌}
 use mathlib.Core.Path.{◌≡◌}
-use lib.ListN.{length, length-set}
+use lib.ListN.{length}
 use Rattle.tree.specs.Buffers.{visits}
-use Rattle.rows.proofs.FirstRow.{FirstRow, Stop, stop, first-row-none, first-row-more, first-levels}
+use Rattle.rows.proofs.FirstRow.{FirstRow}
 use Rattle.rows.proofs.sparse.first_row.Given as goal
 
 abbrev pub invariant-loop-i : goal.invariant-loop-i

@@ -2,10 +2,9 @@
 -- Assumes nothing.
 use native.Mathlib.Omega.{arith}
 use borrow.Author.Rules.{rules}
-use Prim.Native.Nat.{◌-◌, ◌*◌, ◌≤◌}
-use mathlib.Core.Path.{◌≡◌, sym, ◌∙◌}
-use lib.ListN.{length, length-set}
-use Rattle.rows.proofs.Heights.{Inside, inside, TwoLevels, two-levels, Lowered, lowered_none, lowered-more, lowered-all}
+use mathlib.Core.Path.{◌∙◌}
+use lib.ListN.{length-set}
+use Rattle.rows.proofs.Heights.{TwoLevels, two-levels, lowered_none, lowered-more, lowered-all}
 use Rattle.rows.proofs.sparse.next_levels.Goals as goal
 use Rattle.rows.proofs.sparse.next_levels.Goals.{In-loop-i}
 

@@ -1,11 +1,9 @@
 -- `rows::sparse::next_levels` meets its contract: the levels of the next row's first i cells stand in the other half of work, those of the row in theirs.
 -- Assumes nothing.
-use native.Mathlib.Omega.{arith}
-use borrow.Author.Rules.{rules}
 use Prim.Native.Nat.{◌-◌, ◌*◌, ◌≤◌}
-use mathlib.Core.Path.{◌≡◌, sym, ◌∙◌}
-use lib.ListN.{length, length-set}
-use Rattle.rows.proofs.Heights.{Inside, inside, TwoLevels, two-levels, Lowered, lowered_none, lowered-more, lowered-all}
+use mathlib.Core.Path.{◌≡◌}
+use lib.ListN.{length}
+use Rattle.rows.proofs.Heights.{Lowered}
 use Rattle.rows.proofs.sparse.next_levels.Given as goal
 
 abbrev pub invariant-loop-i : goal.invariant-loop-i
