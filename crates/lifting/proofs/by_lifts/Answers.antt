@@ -1,7 +1,6 @@
 -- `lifting::by_lifts` meets its contract: the levelled pair has the carrier of the pair asked for, and the route's answer is that carrier.
 -- Assumes nothing.
 use mathlib.Core.Path.{◌∙◌}
-use borrow.Author.Rules.{rules}
 use Rattle.lifting.proofs.Meeting.{same-part, lca-answers}
 use Rattle.lifting.proofs.by_lifts.Goals as goal
 

@@ -1,6 +1,5 @@
 -- `routes::list` meets its contract: the tests decide, and where they accept, the list's carrier is stored.
 -- Assumes nothing.
-use borrow.Author.Rules.{rules}
 use mathlib.Core.Path.{sym, ◌∙◌}
 use Rattle.tree.proofs.Fits.{list-fit}
 use Rattle.routes.specs.Answers.{Asked, asked_by}

@@ -1,6 +1,5 @@
 -- `routes::pairs` meets its contract: the tests decide, and where they accept, each pair's answer is stored.
 -- Assumes nothing.
-use borrow.Author.Rules.{rules}
 use mathlib.Core.Path.{sym, ◌∙◌}
 use Rattle.tree.proofs.Fits.{pairs-fit}
 use Rattle.routes.specs.Answers.{Asked, asked_by}

@@ -1,7 +1,6 @@
 -- `routes::trail` meets its contract: the tests decide, and where they accept, the trail of the question's pair is stored.
 -- Assumes nothing.
 use native.Mathlib.Omega.{arith}
-use borrow.Author.Rules.{rules}
 use mathlib.Core.Path.{sym, ◌∙◌}
 use Rattle.tree.proofs.Fits.{trail_fit_lem}
 use Rattle.tree.proofs.Pairs.{question-pair}

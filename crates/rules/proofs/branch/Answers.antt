@@ -1,9 +1,8 @@
 -- `rules::branch` meets its contract: the part that is visited before the tour comes back to c is the branch, and there is no other.
 -- Assumes nothing.
 use native.Mathlib.Omega.{arith}
-use Prim.Native.Nat.{◌-◌, ◌<◌}
+use Prim.Native.Nat.{◌-◌}
 use mathlib.Core.Path.{◌∙◌}
-use borrow.Author.Rules.{rules}
 use Rattle.tree.proofs.Climbs.{ancestor-inside}
 use Rattle.tree.proofs.Branches.{branch-itself, branch-is}
 use Rattle.rules.proofs.TourCells.{Visited, visited}

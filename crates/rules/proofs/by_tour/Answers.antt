@@ -2,7 +2,6 @@
 -- Assumes nothing.
 use native.Mathlib.Omega.{arith}
 use mathlib.Core.Path.{sym, ◌∙◌}
-use borrow.Author.Rules.{rules}
 use Rattle.tree.specs.Tables.{own}
 use Rattle.tree.proofs.ByTour.{by-positions}
 use Rattle.rules.proofs.TourCells.{First, first}

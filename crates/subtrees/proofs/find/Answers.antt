@@ -1,7 +1,6 @@
 -- `subtrees::find` meets its contract: the part is tested, and PREORDER and SIZE are read.
 -- Assumes nothing.
 use native.Mathlib.Omega.{arith}
-use borrow.Author.Rules.{rules}
 use Rattle.subtrees.proofs.Locating.{OwnNumbers, own-numbers, find-refused, find-found}
 use Rattle.subtrees.proofs.find.Goals as goal
 use Rattle.subtrees.proofs.find.Goals.{After-shared_slice_known-1}

@@ -1,6 +1,5 @@
 -- `subtrees::locate` meets its contract: tests 1 to 8 decide, and where they accept, the part does.
 -- Assumes nothing.
-use borrow.Author.Rules.{rules}
 use Rattle.tree.specs.Tables.{Lent, lent_by}
 use Rattle.subtrees.proofs.Locating.{locate-refused, locate-found, locate-owned}
 use Rattle.subtrees.proofs.locate.Goals as goal

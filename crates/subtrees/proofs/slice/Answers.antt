@@ -1,7 +1,6 @@
 -- `subtrees::slice` meets its contract: the cells that were located, where they lie.
 -- Assumes nothing.
 use native.Mathlib.Omega.{arith}
-use borrow.Author.Rules.{rules}
 use Prim.Native.Nat.{◌+◌, ◌-◌}
 use mathlib.Core.Path.{◌≡◌, refl, ap}
 use Rattle.tree.specs.Verdict.{start_of, count_of}

@@ -1,6 +1,5 @@
 -- `subtrees::subtree` meets its contract: the stretch that was located is handed back.
 -- Assumes nothing.
-use borrow.Author.Rules.{rules}
 use mathlib.Core.Path.{refl}
 use Rattle.tree.specs.Tables.{Lent, lent_by}
 use Rattle.subtrees.proofs.Locating.{locate-within, subtree-given}

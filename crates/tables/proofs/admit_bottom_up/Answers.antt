@@ -3,8 +3,6 @@
 use Prim.Native.Nat.{ℕ}
 use native.Mathlib.Omega.{arith}
 use mathlib.Core.Path.{◌≡◌, refl, sym, ap, ◌∙◌}
-use mathlib.Core.List.{List}
-use borrow.Author.Rules.{rules}
 use lib.Dec.{lit≤}
 use lib.ListN.{length, replicate}
 use Rattle.tree.specs.Verdict.{verdict_of}

@@ -1,7 +1,6 @@
 -- `tables::admit_lent` meets its contract: tests 1 to 7 decide, and where they accept, the comparison does.
 -- Assumes nothing.
 use Prim.Native.Nat.{ℕ}
-use borrow.Author.Rules.{rules}
 use mathlib.Core.Path.{ap, ◌∙◌}
 use lib.ListN.{replicate}
 use Rattle.tree.specs.Buffers.{lower_unfit}

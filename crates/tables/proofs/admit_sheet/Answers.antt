@@ -1,7 +1,6 @@
 -- `tables::admit_sheet` meets its contract: what was found of the lengths is the lower of work's number and the further one.
 -- Assumes nothing.
 use mathlib.Core.Path.{ap, ◌∙◌}
-use borrow.Author.Rules.{rules}
 use Prim.Native.Nat.{ℕ}
 use Rattle.tree.specs.Buffers.{lower_unfit}
 use Rattle.tree.specs.Lending.{sheet_unfit}

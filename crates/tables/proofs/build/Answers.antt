@@ -2,7 +2,6 @@
 -- Assumes nothing.
 use Prim.Native.Nat.{ℕ}
 use mathlib.Core.Path.{refl}
-use borrow.Author.Rules.{rules}
 use Rattle.tables.proofs.Lending.{found-tested, found-work, tested-fits, build-refused, build-accepted}
 use Rattle.tree.specs.Tables.{Lent, lent_by}
 use Rattle.tree.specs.Lending.{unfit_of}

@@ -4,7 +4,6 @@ use Prim.Native.Nat.{ℕ, ◌≤◌}
 use native.Mathlib.Omega.{arith}
 use mathlib.Core.Path.{sym, ap, ◌∙◌, subst}
 use mathlib.Core.List.{List}
-use borrow.Author.Rules.{rules}
 use lib.ListN.{length, get_or, replicate}
 use Rattle.tree.specs.Buffers.{wear_fits, first_unfit}
 use Rattle.tree.specs.Verdict.{verdict_of}

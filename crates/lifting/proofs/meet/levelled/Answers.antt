@@ -2,7 +2,6 @@
 -- Assumes nothing.
 use native.Mathlib.Omega.{arith}
 use mathlib.Core.Path.{◌∙◌}
-use borrow.Author.Rules.{rules}
 use Rattle.tree.proofs.Trees.{level-below}
 use Rattle.lifting.proofs.Meeting.{levelled-pair}
 use Rattle.lifting.proofs.meet.levelled.Goals as goal

@@ -4,12 +4,8 @@ use Prim.Native.Nat.{suc}
 use native.Mathlib.Numerals.{add-one}
 use native.Mathlib.Omega.{arith}
 use mathlib.Core.Path.{ap, ◌∙◌}
-use mathlib.Core.List.{[], ◌∷◌}
-use borrow.Author.Rules.{rules}
-use Rattle.tree.specs.Lca.{lca}
-use Rattle.lifting.specs.Stored.{row}
 use Rattle.lifting.proofs.Reading.{levels}
-use Rattle.lifting.proofs.Meeting.{Nearing, nearing-start, nearing-pair, nearing-pass, nearing-skip, nearing-end}
+use Rattle.lifting.proofs.Meeting.{nearing-start, nearing-pair, nearing-pass, nearing-skip, nearing-end}
 use Rattle.lifting.proofs.meet.meeting.Goals as goal
 
 pub loop-k-init : goal.loop-k-init

@@ -3,13 +3,11 @@
 use Prim.Native.Nat.{ℕ, ◌*◌, ◌%◌, ◌^◌}
 use native.Mathlib.Omega.{arith}
 use mathlib.Core.Path.{◌≡◌, refl, ap, ◌∙◌}
-use borrow.Author.Rules.{rules}
-use lib.Pow.{pow_pos}
 use Rattle.bits.specs.Bits.{log2}
 use Rattle.bits.proofs.Log.{log2-low}
 use Rattle.bits.proofs.Ones.{one_shifted}
 use Rattle.lifting.proofs.Reading.{Lift, lift-of}
-use Rattle.lifting.proofs.Meeting.{Climbing, climbing-power, climbing-step, climbing-end}
+use Rattle.lifting.proofs.Meeting.{climbing-power, climbing-step, climbing-end}
 use Rattle.lifting.proofs.meet.steps_up.Goals as goal
 use Rattle.lifting.proofs.meet.steps_up.Goals.{After-log2-k}
 

@@ -3,13 +3,7 @@
 use Prim.Native.Nat.{suc}
 use native.Mathlib.Numerals.{add-one}
 use mathlib.Core.Path.{ap, ◌∙◌}
-use borrow.Author.Rules.{rules}
-use lib.ListN.{length}
-use Rattle.bits.specs.Bits.{log2}
-use Rattle.tree.specs.Tables.{own}
-use Rattle.tree.specs.Trail.{stays_apart, raise_both}
-use Rattle.lifting.specs.Stored.{row}
-use Rattle.lifting.proofs.Raising.{stays_apart_lem, meets, Trying, trying_start, trying-pass, trying-skip, trying-end}
+use Rattle.lifting.proofs.Raising.{stays_apart_lem, meets, trying_start, trying-pass, trying-skip, trying-end}
 use Rattle.lifting.proofs.raise.apart.Goals as goal
 
 pub loop-j-init : goal.loop-j-init

@@ -1,15 +1,12 @@
 -- `lifting::raise::apart` meets its contract: the powers below 2^j are left to try.
 -- Assumes nothing.
 use Prim.Native.Nat.{suc}
-use native.Mathlib.Numerals.{add-one}
-use mathlib.Core.Path.{ap, ◌∙◌}
-use borrow.Author.Rules.{rules}
 use lib.ListN.{length}
 use Rattle.bits.specs.Bits.{log2}
 use Rattle.tree.specs.Tables.{own}
 use Rattle.tree.specs.Trail.{stays_apart, raise_both}
 use Rattle.lifting.specs.Stored.{row}
-use Rattle.lifting.proofs.Raising.{stays_apart_lem, meets, Trying, trying_start, trying-pass, trying-skip, trying-end}
+use Rattle.lifting.proofs.Raising.{Trying}
 use Rattle.lifting.proofs.raise.apart.Given as goal
 
 abbrev pub invariant-loop-j : goal.invariant-loop-j

@@ -2,7 +2,6 @@
 -- Assumes nothing.
 use native.Mathlib.Omega.{arith}
 use mathlib.Core.Path.{refl}
-use borrow.Author.Rules.{rules}
 use Rattle.lifting.proofs.Reading.{levels}
 use Rattle.lifting.proofs.Meeting.{swapped}
 use Rattle.lifting.proofs.raise.deeper_first.Goals as goal

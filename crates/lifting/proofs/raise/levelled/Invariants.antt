@@ -1,19 +1,13 @@
 -- `lifting::raise::levelled` meets its contract: the powers below 2^k are left to try.
 -- Assumes nothing.
-use Prim.Native.Nat.{suc, ◌-◌, ◌*◌, ◌%◌, ◌^◌, ◌<◌}
-use native.Mathlib.Numerals.{add-one}
-use native.Mathlib.Omega.{arith}
-use mathlib.Core.Path.{◌≡◌, ap, ◌∙◌}
-use borrow.Author.Rules.{rules}
-use borrow.Author.Tests.{le-leb, lt-leb}
+use Prim.Native.Nat.{suc, ◌^◌}
 use lib.Dec.{leb}
 use lib.ListN.{length}
 use Rattle.bits.specs.Bits.{log2}
-use Rattle.bits.proofs.Ones.{one_shifted}
 use Rattle.tree.specs.Tables.{own}
-use Rattle.tree.specs.Trail.{gap, raise_deeper, levelled}
+use Rattle.tree.specs.Trail.{gap, raise_deeper}
 use Rattle.lifting.specs.Stored.{row}
-use Rattle.lifting.proofs.Raising.{Trying, trying_start, trying-pass, trying-skip, trying-end}
+use Rattle.lifting.proofs.Raising.{Trying}
 use Rattle.lifting.proofs.raise.levelled.Given as goal
 
 abbrev pub invariant-loop-k : goal.invariant-loop-k

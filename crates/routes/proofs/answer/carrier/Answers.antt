@@ -1,6 +1,5 @@
 -- `routes::answer::carrier` meets its contract: each route has its rule.
 -- Assumes nothing.
-use borrow.Author.Rules.{rules}
 use Rattle.routes.proofs.answer.carrier.Goals as goal
 
 pub by_labels-requires : goal.by_labels-requires

@@ -1,7 +1,6 @@
 -- `routes::answer::list` meets its contract: the carrier of the first and the last in preorder is the list's.
 -- Assumes nothing.
 use native.Mathlib.Omega.{arith}
-use borrow.Author.Rules.{rules}
 use mathlib.Core.Path.{◌≡◌, ap, ◌∙◌}
 use mathlib.Core.List.{[], ◌∷◌}
 use Rattle.tree.specs.Lca.{lca}

@@ -1,8 +1,5 @@
 -- `routes::answer::pair` meets its contract: the carrier that the route gives carries both parts, so it has a branch towards each.
 -- Assumes nothing.
-use native.Mathlib.Omega.{arith}
-use borrow.Author.Rules.{rules}
-use lib.ListN.{length-set}
 use Rattle.tree.specs.Tree.{Ancestor}
 use Rattle.tree.specs.Tables.{own}
 use Rattle.routes.specs.Rules.{rule_of}

@@ -2,11 +2,11 @@
 -- Assumes nothing.
 use native.Mathlib.Omega.{arith}
 use borrow.Author.Rules.{rules}
-use Prim.Native.Nat.{ℕ, ◌+◌, ◌-◌, ◌*◌, ◌/◌, ◌≤◌}
+use Prim.Native.Nat.{ℕ, ◌+◌, ◌*◌}
 use mathlib.Core.Path.{◌≡◌, sym, ap, ◌∙◌, subst}
 use mathlib.Core.List.{List}
 use lib.ListN.{length}
-use Rattle.tree.specs.Buffers.{answer_width, answer_cells}
+use Rattle.tree.specs.Buffers.{answer_width}
 use Rattle.tree.specs.Tables.{own}
 use Rattle.tree.specs.Sections.{Same}
 use Rattle.tree.specs.Branch.{answer_cell, answer_by}

@@ -1,20 +1,14 @@
 -- `routes::answer::pairs` meets its contract: the cells stored are the route's answers to the pairs passed.
 -- Assumes nothing.
-use native.Mathlib.Omega.{arith}
-use borrow.Author.Rules.{rules}
-use Prim.Native.Nat.{ℕ, ◌+◌, ◌-◌, ◌*◌, ◌/◌, ◌≤◌}
-use mathlib.Core.Path.{◌≡◌, sym, ap, ◌∙◌, subst}
-use mathlib.Core.List.{List}
+use Prim.Native.Nat.{◌-◌, ◌*◌, ◌/◌, ◌≤◌}
+use mathlib.Core.Path.{◌≡◌}
 use lib.ListN.{length}
 use Rattle.tree.specs.Buffers.{answer_width, answer_cells}
 use Rattle.tree.specs.Tables.{own}
 use Rattle.tree.specs.Sections.{Same}
-use Rattle.tree.specs.Branch.{answer_cell, answer_by}
+use Rattle.tree.specs.Branch.{answer_by}
 use Rattle.tree.specs.Pairs.{each_answer}
-use Rattle.tree.proofs.Differences.{same_none, same-all}
-use Rattle.tree.proofs.Pairs.{each-row-length}
 use Rattle.routes.specs.Rules.{rule_of}
-use Rattle.routes.proofs.Storing.{stored-length, pair-store}
 use Rattle.routes.proofs.answer.pairs.Given as goal
 
 abbrev pub invariant-loop-i : goal.invariant-loop-i

@@ -1,7 +1,6 @@
 -- `routes::answer::trail` meets its contract: rows stored in cells that all hold 65535 are a trail's buffer.
 -- Assumes nothing.
 use native.Mathlib.Omega.{arith}
-use borrow.Author.Rules.{rules}
 use mathlib.Core.Path.{ap, ◌∙◌}
 use mathlib.Core.List.{[], ◌∷◌}
 use lib.ListN.{replicate}

@@ -1,6 +1,5 @@
 -- `routes::ask::admit` meets its contract: the tests of the sheet and its tables, and where they accept, those of the question.
 -- Assumes nothing.
-use borrow.Author.Rules.{rules}
 use Rattle.tree.specs.Tables.{Lent, lent_by}
 use Rattle.routes.proofs.Asking.{admit-refused, admit-asked, admit-owned}
 use Rattle.routes.proofs.ask.admit.Goals as goal

@@ -1,6 +1,5 @@
 -- `routes::ask::test_question` meets its contract: on a tree test 11 is never met.
 -- Assumes nothing.
-use borrow.Author.Rules.{rules}
 use mathlib.Core.Path.{sym, ap, ◌∙◌}
 use native.Mathlib.Nat.{zero-add, pos_of_ne-zero}
 use Rattle.tree.specs.Verdict.{refused}

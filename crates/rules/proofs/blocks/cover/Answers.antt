@@ -3,7 +3,6 @@
 use native.Mathlib.Omega.{arith}
 use Prim.Native.Nat.{◌+◌, ◌-◌, ◌*◌, ◌^◌, ◌%◌}
 use mathlib.Core.Path.{◌∙◌}
-use borrow.Author.Rules.{rules}
 use Rattle.bits.proofs.Ones.{one_shifted}
 use Rattle.rules.proofs.TourCells.{Blocks, blocks}
 use Rattle.rules.proofs.blocks.cover.Goals as goal

@@ -1,8 +1,6 @@
 -- `rules::blocks::shallowest` meets its contract: the cells read are those of the nodes that the two blocks show.
 -- Assumes nothing.
-use native.Mathlib.Omega.{arith}
 use mathlib.Core.Path.{sym, ◌∙◌}
-use borrow.Author.Rules.{rules}
 use Rattle.rules.proofs.TourCells.{Shown, shown}
 use Rattle.rules.proofs.blocks.shallowest.Goals as goal
 use Rattle.rules.proofs.blocks.shallowest.Goals.{After-cover-at}

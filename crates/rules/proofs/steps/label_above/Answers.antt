@@ -1,7 +1,6 @@
 -- `rules::steps::label_above` meets its contract: the bits from place j on, the lowest of them made a one, are shifted back up, and none is shifted out.
 -- Assumes nothing.
 use mathlib.Core.Path.{◌∙◌}
-use borrow.Author.Rules.{rules}
 use Rattle.bits.specs.Bits.{clear_below}
 use Rattle.bits.proofs.Ones.{one-above, one-above-fits}
 use Rattle.tree.specs.Routes.{label_above}

@@ -1,7 +1,6 @@
 -- `rules::steps::nearer` meets its contract: the cells compared are the two LEVELs.
 -- Assumes nothing.
 use native.Mathlib.Omega.{arith}
-use borrow.Author.Rules.{rules}
 use Rattle.rules.proofs.Cells.{label_length, nearer-left, nearer-right}
 use Rattle.rules.proofs.steps.nearer.Goals as goal
 

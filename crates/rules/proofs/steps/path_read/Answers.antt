@@ -1,6 +1,5 @@
 -- `rules::steps::path_read` meets its contract: the code is the choice.
 -- Assumes nothing.
-use borrow.Author.Rules.{rules}
 use borrow.Author.Tests.{eq-eqb, ne_eqb}
 use Rattle.rules.proofs.steps.path_read.Goals as goal
 

@@ -1,6 +1,5 @@
 -- `rules::steps::step1` meets its contract: the highest of several bits together is the greatest of their places.
 -- Assumes nothing.
-use borrow.Author.Rules.{rules}
 use Rattle.bits.proofs.Ones.{log2-or}
 use Rattle.tree.specs.Routes.{step1}
 use Rattle.rules.proofs.steps.step1.Goals as goal

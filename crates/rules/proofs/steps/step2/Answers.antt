@@ -1,6 +1,5 @@
 -- `rules::steps::step2` meets its contract: the code is the rule's step.
 -- Assumes nothing.
-use borrow.Author.Rules.{rules}
 use Rattle.tree.specs.Routes.{step2}
 use Rattle.rules.proofs.steps.step2.Goals as goal
 

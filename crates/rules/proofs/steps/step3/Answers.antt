@@ -2,7 +2,6 @@
 -- Assumes nothing.
 use native.Mathlib.Omega.{arith}
 use mathlib.Core.Path.{◌≡◌}
-use borrow.Author.Rules.{rules}
 use Rattle.rules.proofs.Cells.{label_length}
 use Rattle.rules.proofs.Toward.{HeadCell, path_read, path-head, step3-here, step3-head}
 use Rattle.rules.proofs.steps.step3.Goals as goal

@@ -2,12 +2,10 @@
 -- Assumes nothing.
 use native.Mathlib.Omega.{arith}
 use borrow.Author.Rules.{rules}
-use Prim.Native.Nat.{◌-◌, ◌≤◌}
 use native.Mathlib.Nat.{zero-add}
 use native.Mathlib.Numerals.{add-one}
 use mathlib.Core.Path.{◌≡◌, sym, ◌∙◌}
 use lib.ListN.{length}
-use Rattle.tree.specs.Ready.{Columns}
 use Rattle.tree.proofs.Cells.{label-length}
 use Rattle.tree.proofs.Columns.{ready-kept}
 use Rattle.tree.proofs.Differences.{same_none, same-all}

@@ -1,7 +1,6 @@
 -- `tables::fill::order` meets its contract: the order is made in work and copied out.
 -- Assumes nothing.
 use native.Mathlib.Omega.{arith}
-use borrow.Author.Rules.{rules}
 use mathlib.Core.Path.{◌∙◌}
 use Rattle.tree.proofs.Columns.{columns-fewer}
 use Rattle.tree.proofs.Sizes.{preorder-length}

@@ -1,13 +1,9 @@
 -- `tables::fill::sparse` meets its contract: the rows up to the one at `at` are filled, and the levels at its positions stand in a half of work.
 -- Assumes nothing.
-use borrow.Author.Rules.{rules}
 use Prim.Native.Nat.{◌-◌}
-use mathlib.Core.Path.{refl, ◌∙◌}
 use lib.ListN.{length}
 use Rattle.tree.specs.Buffers.{visits}
-use Rattle.tables.proofs.Sections.{copied-upto}
-use Rattle.tables.proofs.Rowwise.{rowwise-next, rowwise-all}
-use Rattle.tables.proofs.TableRows.{SparseLoop, sparse-first, sparse-start, sparse-levels, sparse-row, sparse-next}
+use Rattle.tables.proofs.TableRows.{SparseLoop}
 use Rattle.tables.proofs.fill.sparse.Given as goal
 
 abbrev pub invariant-loop-half : goal.invariant-loop-half

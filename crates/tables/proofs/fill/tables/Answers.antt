@@ -1,6 +1,5 @@
 -- `tables::fill::tables` meets its contract: the tables are filled one after the other.
 -- Assumes nothing.
-use borrow.Author.Rules.{rules}
 use mathlib.Core.Path.{ap, ◌∙◌}
 use lib.ListN.{replicate}
 use Rattle.tree.proofs.Columns.{ready-kept, own-columns}

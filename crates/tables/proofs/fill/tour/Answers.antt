@@ -1,13 +1,12 @@
 -- `tables::fill::tour` meets its contract: the tour and the first positions are copied out, and then the rows.
 -- Assumes nothing.
 use native.Mathlib.Omega.{arith}
-use borrow.Author.Rules.{rules}
 use native.Mathlib.Nat.{zero-add}
 use mathlib.Core.Path.{◌∙◌}
 use Rattle.tree.proofs.Columns.{columns-kept}
 use Rattle.tree.proofs.Differences.{same_none}
 use Rattle.tables.proofs.Sections.{copied-upto}
-use Rattle.tables.proofs.TableRows.{some-node, own-tour-length, tour-room}
+use Rattle.tables.proofs.TableRows.{own-tour-length, tour-room}
 use Rattle.tables.proofs.fill.tour.Goals as goal
 
 pub visits-requires : goal.visits-requires

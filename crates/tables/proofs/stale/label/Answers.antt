@@ -1,14 +1,12 @@
 -- `tables::stale::label` meets its contract: the table's first k columns are the sheet's own, and the next is compared.
 -- Assumes nothing.
 use native.Mathlib.Omega.{arith}
-use borrow.Author.Rules.{rules}
-use Prim.Native.Nat.{◌+◌, ◌-◌, ◌*◌, ◌≤◌}
+use Prim.Native.Nat.{◌+◌, ◌*◌, ◌≤◌}
 use native.Mathlib.Numerals.{add-one}
-use mathlib.Core.Path.{◌≡◌, refl, sym, ◌∙◌}
+use mathlib.Core.Path.{◌≡◌, refl}
 use lib.ListN.{length}
 use Rattle.tree.specs.Tree.{root_of}
 use Rattle.tree.specs.Buffers.{label_cells}
-use Rattle.tree.specs.Ready.{Columns}
 use Rattle.tree.proofs.Cells.{label-length}
 use Rattle.tree.proofs.Columns.{ready-kept}
 use Rattle.labels.proofs.Stepping.{column-room}

@@ -1,14 +1,10 @@
 -- `tables::stale::lift` meets its contract: the table's rows are the sheet's own up to the row that the loop is at, and the next is compared.
 -- Assumes nothing.
 use native.Mathlib.Omega.{arith}
-use borrow.Author.Rules.{rules}
-use Prim.Native.Nat.{◌-◌}
-use lib.ListN.{length}
-use Rattle.tree.specs.Ready.{Ready}
 use Rattle.tree.proofs.Differences.{same_none}
 use Rattle.tree.proofs.Columns.{ready-kept}
-use Rattle.tables.proofs.Rowwise.{rowwise-small, rowwise-less, rowwise-room, rowwise-next-room, rowwise-agreed, rowwise-parts, rowwise-none}
-use Rattle.tables.proofs.TableRows.{LiftRows, lift-room, lift-first, lift-rows-start, lift-row}
+use Rattle.tables.proofs.Rowwise.{rowwise-small, rowwise-agreed, rowwise-parts, rowwise-none}
+use Rattle.tables.proofs.TableRows.{lift-room, lift-first, lift-rows-start, lift-row}
 use Rattle.tables.proofs.Sections.{agree-all, agree-parts-first}
 use Rattle.tables.proofs.stale.lift.Goals as goal
 

@@ -1,7 +1,6 @@
 -- `tables::stale::numbers` meets its contract: where the sums tell that both columns are the sheet's own, all cells agree.
 -- Assumes nothing.
 use native.Mathlib.Omega.{arith}
-use borrow.Author.Rules.{rules}
 use native.Mathlib.Nat.{le_refl}
 use Rattle.tree.proofs.Columns.{ready-kept}
 use Rattle.cells.proofs.Stretches.{agree_same}

@@ -1,7 +1,6 @@
 -- `tables::stale::order` meets its contract: the order is made in work and compared.
 -- Assumes nothing.
 use native.Mathlib.Omega.{arith}
-use borrow.Author.Rules.{rules}
 use Rattle.tree.proofs.Columns.{columns-fewer}
 use Rattle.tree.proofs.Sizes.{preorder-length}
 use Rattle.tables.proofs.Sections.{agree-whole}

@@ -1,6 +1,5 @@
 -- `tables::stale::tables` meets its contract: each table is compared, and the next only where it is the sheet's own.
 -- Assumes nothing.
-use borrow.Author.Rules.{rules}
 use mathlib.Core.Path.{◌∙◌}
 use Rattle.tree.proofs.Columns.{ready-kept}
 use Rattle.tables.proofs.Columnwise.{columns-all}

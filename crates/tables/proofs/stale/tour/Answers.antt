@@ -1,7 +1,6 @@
 -- `tables::stale::tour` meets its contract: the tour and the first visits are made and compared, then the rows.
 -- Assumes nothing.
 use native.Mathlib.Omega.{arith}
-use borrow.Author.Rules.{rules}
 use mathlib.Core.Path.{◌∙◌}
 use lib.ListN.{length}
 use Rattle.tree.specs.Buffers.{visits}

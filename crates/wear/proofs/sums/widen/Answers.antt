@@ -1,10 +1,9 @@
 -- `wear::sums::widen` meets its contract: the cells passed hold the counts.
 -- Assumes nothing.
 use native.Mathlib.Omega.{arith}
-use borrow.Author.Rules.{rules}
-use Prim.Native.Nat.{ℕ, ◌-◌, ◌≤◌, ◌<◌}
-use mathlib.Core.Path.{◌≡◌, refl, sym, ap, ◌∙◌}
-use lib.ListN.{length, get_or, length-set}
+use Prim.Native.Nat.{ℕ, ◌≤◌}
+use mathlib.Core.Path.{refl, sym, ap, ◌∙◌}
+use lib.ListN.{get_or, length-set}
 use lib.Seq.{ext_get_or}
 use Rattle.tree.proofs.Scans.{by_equal}
 use Rattle.tree.proofs.Differences.{store-either}

@@ -1,13 +1,8 @@
 -- `wear::sums::widen` meets its contract: the cells passed hold the counts.
 -- Assumes nothing.
-use native.Mathlib.Omega.{arith}
-use borrow.Author.Rules.{rules}
 use Prim.Native.Nat.{ℕ, ◌-◌, ◌≤◌, ◌<◌}
-use mathlib.Core.Path.{◌≡◌, refl, sym, ap, ◌∙◌}
-use lib.ListN.{length, get_or, length-set}
-use lib.Seq.{ext_get_or}
-use Rattle.tree.proofs.Scans.{by_equal}
-use Rattle.tree.proofs.Differences.{store-either}
+use mathlib.Core.Path.{◌≡◌}
+use lib.ListN.{length, get_or}
 use Rattle.wear.specs.Totals.{count_limit}
 use Rattle.wear.proofs.sums.widen.Given as goal
 
