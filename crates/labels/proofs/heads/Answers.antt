@@ -54,8 +54,11 @@ place-requires c = let f = here (goal.at.place-requires c).In-loop-v in (search 
 
 pub loop-v-preserved : goal.loop-v-preserved
 unfolding parent
-loop-v-preserved c =
-    (search rules, heads-step c.requires.0.ready c.loop-v.invariant.1 c.loop-v-test.true (here (goal.at.loop-v-preserved c).In-loop-v) (above (goal.at.loop-v-preserved c).In-loop-v) c.place.ensures)
+loop-v-preserved c = (
+  search rules,
+  heads-step c.requires.0.ready c.loop-v.invariant.1 c.loop-v-test.true (here (goal.at.loop-v-preserved c).In-loop-v)
+      (above (goal.at.loop-v-preserved c).In-loop-v) c.place.ensures,
+)
 
 pub returns : goal.returns
 returns c =

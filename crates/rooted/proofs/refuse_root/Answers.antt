@@ -64,7 +64,13 @@ returns-then-off-n c =
     }
 
 pub returns-then-n-root : goal.returns-then-n-root
-returns-then-n-root c = record { why = NoRoot; is = refl; refusal = refused-no_root _ _ (entries (goal.at.returns-then-n-root c).Else-off-n) (rw c.root-root.ensures at c.if-n-root.true) }
+returns-then-n-root c =
+    record {
+      why = NoRoot;
+      is = refl;
+      refusal = refused-no_root _ _ (entries (goal.at.returns-then-n-root c).Else-off-n)
+          (rw c.root-root.ensures at c.if-n-root.true);
+    }
 
 pub returns : goal.returns
 returns c =
@@ -72,7 +78,8 @@ returns c =
     record {
       why = SecondRoot (shift + c.second_root-second.result);
       is = refl;
-      refusal = refused-second_root shift _ (entries (goal.at.returns c).Else-off-n) (below (goal.at.returns c).Else-n-root) (some c) ∙ ap (λ k. refused 6 (shift + k)) (sym (second c));
+      refusal = refused-second_root shift _ (entries (goal.at.returns c).Else-off-n) (below (goal.at.returns c).Else-n-root) (some c)
+          ∙ ap (λ k. refused 6 (shift + k)) (sym (second c));
     }
 
 pub overflow_add-result-2 : goal.overflow_add-result-2

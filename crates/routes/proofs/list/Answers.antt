@@ -14,7 +14,8 @@ asked c = let a = c.args in asked_by a.parents.now a.label.now a.tour.now a.lift
 
 pub returns-in_default : goal.returns-in_default
 returns-in_default c =
-    list-refused (asked (goal.at.returns-in_default c).Start) (admitted-as (asked (goal.at.returns-in_default c).Start) c.list_unfit-unfit.ensures c.admit-r.ensures) c.in_default.is
+    list-refused (asked (goal.at.returns-in_default c).Start)
+    (admitted-as (asked (goal.at.returns-in_default c).Start) c.list_unfit-unfit.ensures c.admit-r.ensures) c.in_default.is
 
 pub list-requires : goal.list-requires
 list-requires c =
@@ -23,5 +24,6 @@ list-requires c =
 
 pub returns : goal.returns
 returns c =
-    list-answered (asked (goal.at.returns c).Start) (admitted-as (asked (goal.at.returns c).Start) c.list_unfit-unfit.ensures c.admit-r.ensures) c.in-Accepted.is
+    list-answered (asked (goal.at.returns c).Start) (admitted-as (asked (goal.at.returns c).Start) c.list_unfit-unfit.ensures c.admit-r.ensures)
+    c.in-Accepted.is
     c.list.ensures

@@ -15,7 +15,8 @@ asked c = let a = c.args in asked_by a.parents.now a.label.now a.tour.now a.lift
 
 pub returns-in_default : goal.returns-in_default
 returns-in_default c =
-    pairs-refused c.args.route (asked (goal.at.returns-in_default c).Start) (admitted-as (asked (goal.at.returns-in_default c).Start) c.pairs_unfit-unfit.ensures c.admit-r.ensures) c.in_default.is
+    pairs-refused c.args.route (asked (goal.at.returns-in_default c).Start)
+    (admitted-as (asked (goal.at.returns-in_default c).Start) c.pairs_unfit-unfit.ensures c.admit-r.ensures) c.in_default.is
 
 pub pairs-requires : goal.pairs-requires
 pairs-requires c =
@@ -25,5 +26,6 @@ pairs-requires c =
 
 pub returns : goal.returns
 returns c =
-    pairs-answered c.args.route (asked (goal.at.returns c).Start) (admitted-as (asked (goal.at.returns c).Start) c.pairs_unfit-unfit.ensures c.admit-r.ensures)
+    pairs-answered c.args.route (asked (goal.at.returns c).Start)
+    (admitted-as (asked (goal.at.returns c).Start) c.pairs_unfit-unfit.ensures c.admit-r.ensures)
     c.in-Accepted.is c.pairs.ensures

@@ -18,17 +18,23 @@ asked c = let a = c.args in asked_by a.parents.now a.label.now a.tour.now a.lift
 pub trail-requires : goal.trail-requires
 trail-requires c =
     let ready = admitted-answerable (asked (goal.at.trail-requires c).Start) _ c.admit-r.ensures c.in-Accepted.is in
-    let (two, one, whole) = trail_fit_lem (length (asked (goal.at.trail-requires c).Start).question) (length (asked (goal.at.trail-requires c).Start).answer) (length c.args.rows.now) (sym c.trail_unfit-unfit.ensures ∙ ready.owned.fits) in
+    let (two, one, whole) =
+    trail_fit_lem (length (asked (goal.at.trail-requires c).Start).question) (length (asked (goal.at.trail-requires c).Start).answer)
+    (length c.args.rows.now) (sym c.trail_unfit-unfit.ensures ∙ ready.owned.fits) in
     (question-pair ready.listed 0 (omega arith), two, one, whole, ready.owned.label, ready.owned.lift)
 
 pub returns-in-Accepted : goal.returns-in-Accepted
 returns-in-Accepted c =
     let ready = admitted-answerable (asked (goal.at.returns-in-Accepted c).Start) _ c.admit-r.ensures c.in-Accepted.is in
-    let (two, _, _) = trail_fit_lem (length (asked (goal.at.returns-in-Accepted c).Start).question) (length (asked (goal.at.returns-in-Accepted c).Start).answer) (length c.args.rows.now) (sym c.trail_unfit-unfit.ensures ∙ ready.owned.fits) in
+    let (two, _, _) =
+    trail_fit_lem (length (asked (goal.at.returns-in-Accepted c).Start).question) (length (asked (goal.at.returns-in-Accepted c).Start).answer)
+    (length c.args.rows.now) (sym c.trail_unfit-unfit.ensures ∙ ready.owned.fits) in
     let done = c.trail.ensures in
-    trail-answered (asked (goal.at.returns-in-Accepted c).Start) c.args.rows.now (admitted-as (asked (goal.at.returns-in-Accepted c).Start) c.trail_unfit-unfit.ensures c.admit-r.ensures) c.in-Accepted.is
+    trail-answered (asked (goal.at.returns-in-Accepted c).Start) c.args.rows.now
+    (admitted-as (asked (goal.at.returns-in-Accepted c).Start) c.trail_unfit-unfit.ensures c.admit-r.ensures) c.in-Accepted.is
     done.0 done.1 done.2 two
 
 pub returns-in-Refused : goal.returns-in-Refused
 returns-in-Refused c =
-    trail-refused (asked (goal.at.returns-in-Refused c).Start) c.args.rows.now (admitted-as (asked (goal.at.returns-in-Refused c).Start) c.trail_unfit-unfit.ensures c.admit-r.ensures) c.in-Refused.is
+    trail-refused (asked (goal.at.returns-in-Refused c).Start) c.args.rows.now
+    (admitted-as (asked (goal.at.returns-in-Refused c).Start) c.trail_unfit-unfit.ensures c.admit-r.ensures) c.in-Refused.is

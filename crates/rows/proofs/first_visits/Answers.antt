@@ -25,8 +25,11 @@ loop-v-preserved c =
     let t = c.requires.ready.tree in
     let l = c.loop-v in
     let h = c.loop-v-test.true in
-    let d = facts (goal.at.loop-v-preserved c).In-loop-v in
-    (omega arith, simp length-set l.invariant.1, same_store (omega arith) l.invariant.2 (c.first_visit.ensures ∙ d.is ∙ sym (first_cell _ l.v (tour-length t) h)))
+    let d = facts (goal.at.loop-v-preserved c).In-loop-v in (
+      omega arith,
+      simp length-set l.invariant.1,
+      same_store (omega arith) l.invariant.2 (c.first_visit.ensures ∙ d.is ∙ sym (first_cell _ l.v (tour-length t) h)),
+    )
 
 pub returns : goal.returns
 returns c =

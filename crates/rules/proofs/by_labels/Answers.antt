@@ -12,7 +12,8 @@ use Rattle.rules.proofs.by_labels.Goals.{After-step2-j, After-label_above-iz}
 
 -- the pair after step 2
 climbs : (c : After-step2-j) →
-    Steps c.args.parents.now c.args.x c.args.y c.step2-j.result (label_above c.step2-j.result (get_or c.args.label.now (3 * length c.args.parents.now + c.args.x) 0))
+    Steps c.args.parents.now c.args.x c.args.y c.step2-j.result
+    (label_above c.step2-j.result (get_or c.args.label.now (3 * length c.args.parents.now + c.args.x) 0))
 climbs c =
     labels-other c.requires.0 c.requires.1 c.if-ix-iy.false (c.step2-j.ensures.is ∙ rw c.step1-i.ensures.is)
 
@@ -20,7 +21,8 @@ climbs c =
 paths : (c : After-label_above-iz) → Steps c.args.parents.now c.args.x c.args.y c.step2-j.result c.label_above-iz.result
 paths c =
     let climbs :
-    (Steps c.args.parents.now c.args.x c.args.y c.step2-j.result (label_above c.step2-j.result (get_or c.args.label.now (3 * length c.args.parents.now + c.args.x) 0))) =
+    (Steps c.args.parents.now c.args.x c.args.y c.step2-j.result
+    (label_above c.step2-j.result (get_or c.args.label.now (3 * length c.args.parents.now + c.args.x) 0))) =
     labels-other c.requires.0 c.requires.1 c.if-ix-iy.false (c.step2-j.ensures.is ∙ rw c.step1-i.ensures.is) in
     rw c.label_above-iz.ensures climbs
 

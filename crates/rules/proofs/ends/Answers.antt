@@ -31,7 +31,8 @@ loop-i-preserved c =
     c.if-label-last.last ≡ cond (ltb (get_or c.args.label.now c.loop-i.last 0) (get_or c.args.label.now v 0)) v c.loop-i.last) =
     (let a = get_or c.args.label.now c.loop-i.last 0 in
     let b = get_or c.args.label.now (get_or c.args.question.now c.loop-i.i 0) 0 in
-    elim c.if-label-last.branch [ then-label-last w ↦ rw (lt-ltb a b (omega arith)) w.last-is | else-label-last w ↦ rw (le-ltb a b (omega arith)) w.last-is ]) in
+    elim c.if-label-last.branch
+    [ then-label-last w ↦ rw (lt-ltb a b (omega arith)) w.last-is | else-label-last w ↦ rw (le-ltb a b (omega arith)) w.last-is ]) in
     (omega arith, scanned-step c.requires.0 c.requires.1 c.loop-i-test.true c.loop-i.invariant.1 first-is last-is)
 
 pub returns : goal.returns

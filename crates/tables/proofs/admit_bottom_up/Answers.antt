@@ -27,25 +27,32 @@ told c =
 pub returns-in_default : goal.returns-in_default
 returns-in_default c =
     let no = c.in_default.is in
-    order-refused (sizes-refuse c.args.parents.now (unfit (goal.at.returns-in_default c).After-test_sizes-sizes) (told (goal.at.returns-in_default c).After-test_sizes-sizes) c.args.work.now no) no
+    order-refused (sizes-refuse c.args.parents.now (unfit (goal.at.returns-in_default c).After-test_sizes-sizes)
+    (told (goal.at.returns-in_default c).After-test_sizes-sizes) c.args.work.now no) no
 
 pub test_tree-r-requires : goal.test_tree-r-requires
 test_tree-r-requires c =
     let s = c.args in
-    let (some, small, fits) = sizes-hold c.args.parents.now (unfit (goal.at.test_tree-r-requires c).After-test_sizes-sizes) (told (goal.at.test_tree-r-requires c).After-test_sizes-sizes) c.in-Accepted.is in
+    let (some, small, fits) =
+    sizes-hold c.args.parents.now (unfit (goal.at.test_tree-r-requires c).After-test_sizes-sizes)
+    (told (goal.at.test_tree-r-requires c).After-test_sizes-sizes) c.in-Accepted.is in
     let (room, _) = sheet-exact c.args.parents.now s.work.now s.further fits in
     (record { small = small; room = omega arith }, lit≤ tt)
 
 pub returns-in_default-r : goal.returns-in_default-r
 returns-in_default-r c =
     let same = c.test_tree-r.auto.work in
-    let tested = tree-tested c.args.parents.now (unfit (goal.at.returns-in_default-r c).After-test_sizes-sizes) (told (goal.at.returns-in_default-r c).After-test_sizes-sizes) c.in-Accepted.is c.test_tree-r.ensures.outcome
+    let tested =
+    tree-tested c.args.parents.now (unfit (goal.at.returns-in_default-r c).After-test_sizes-sizes)
+    (told (goal.at.returns-in_default-r c).After-test_sizes-sizes) c.in-Accepted.is c.test_tree-r.ensures.outcome
     (c.clear.ensures ∙ ap (λ k. replicate k 0) same) in
     order-refused tested c.in_default-r.is
 
 pub returns : goal.returns
 returns c =
-    let decides = tree-decides c.args.parents.now (unfit (goal.at.returns c).After-test_sizes-sizes) (told (goal.at.returns c).After-test_sizes-sizes) c.in-Accepted.is in
+    let decides =
+    tree-decides c.args.parents.now (unfit (goal.at.returns c).After-test_sizes-sizes) (told (goal.at.returns c).After-test_sizes-sizes)
+    c.in-Accepted.is in
     let accepts = sym c.test_tree-r.ensures.outcome ∙ ap verdict_of c.in-Accepted-r.is in
     record {
       outcome = c.test_tree-r.ensures.outcome ∙ sym decides;

@@ -31,20 +31,24 @@ found c =
     λ some small. c.lower-unfit.ensures ∙ ap (λ (u : ℕ). lower_unfit u c.args.further) (c.first_unfit-own.ensures some small)
 
 pub admit-r-requires : goal.admit-r-requires
-admit-r-requires c = found-work (lent (goal.at.admit-r-requires c).Start) c.args.work.now c.args.further _ (found (goal.at.admit-r-requires c).After-lower-unfit)
+admit-r-requires c =
+    found-work (lent (goal.at.admit-r-requires c).Start) c.args.work.now c.args.further _ (found (goal.at.admit-r-requires c).After-lower-unfit)
 
 pub returns-in_default : goal.returns-in_default
 returns-in_default c =
-    stage-refused (found-tested c.args.parents.now (unfit (goal.at.returns-in_default c).Start) _ (found (goal.at.returns-in_default c).After-lower-unfit) c.admit-r.ensures) _ c.in_default.is
+    stage-refused (found-tested c.args.parents.now (unfit (goal.at.returns-in_default c).Start) _ (found (goal.at.returns-in_default c).After-lower-unfit)
+    c.admit-r.ensures) _ c.in_default.is
 
 pub tables-found-requires : goal.tables-found-requires
 tables-found-requires c =
-    tested-fits (lent (goal.at.tables-found-requires c).Start) _ _ c.args.further _ (found (goal.at.tables-found-requires c).After-lower-unfit) c.admit-r.ensures c.in-Accepted.is c.admit-r.auto.work
+    tested-fits (lent (goal.at.tables-found-requires c).Start) _ _ c.args.further _ (found (goal.at.tables-found-requires c).After-lower-unfit)
+    c.admit-r.ensures c.in-Accepted.is c.admit-r.auto.work
 
 pub returns : goal.returns
 returns c =
     let m = c.tables-found in
     let a = c.admit-r in
     let same = m.auto.work ∙ a.auto.work in
-    stage-on (found-tested c.args.parents.now (unfit (goal.at.returns c).Start) _ (found (goal.at.returns c).After-lower-unfit) a.ensures) _ c.in-Accepted.is m.ensures
+    stage-on (found-tested c.args.parents.now (unfit (goal.at.returns c).Start) _ (found (goal.at.returns c).After-lower-unfit) a.ensures) _
+    c.in-Accepted.is m.ensures
     (stale-later (lent (goal.at.returns c).Start)) (c.clear.ensures ∙ ap (λ k. replicate k 0) same)

@@ -22,7 +22,8 @@ admit-r-requires c =
 
 pub returns-in_default : goal.returns-in_default
 returns-in_default c =
-    build-refused (lent (goal.at.returns-in_default c).Start) _ (found-tested c.args.parents.now (unfit (goal.at.returns-in_default c).Start) _ c.first_unfit-unfit.ensures c.admit-r.ensures) c.in_default.is
+    build-refused (lent (goal.at.returns-in_default c).Start) _
+    (found-tested c.args.parents.now (unfit (goal.at.returns-in_default c).Start) _ c.first_unfit-unfit.ensures c.admit-r.ensures) c.in_default.is
 
 pub tables-requires : goal.tables-requires
 tables-requires c =
@@ -32,5 +33,6 @@ pub returns : goal.returns
 returns c =
     let yes = c.in-Accepted.is in
     let fits = tested-fits (lent (goal.at.returns c).Start) c.args.work.now c.args.work.now 0 _ c.first_unfit-unfit.ensures c.admit-r.ensures yes refl in
-    build-accepted (lent (goal.at.returns c).Start) _ (found-tested c.args.parents.now (unfit (goal.at.returns c).Start) _ c.first_unfit-unfit.ensures c.admit-r.ensures) yes fits.ready.room
+    build-accepted (lent (goal.at.returns c).Start) _
+    (found-tested c.args.parents.now (unfit (goal.at.returns c).Start) _ c.first_unfit-unfit.ensures c.admit-r.ensures) yes fits.ready.room
     c.tables.ensures

@@ -15,7 +15,8 @@ use Rattle.wear.proofs.totals.Goals.{In-Accepted, After-admit_bottom_up-r}
 
 -- the answer to the tests, of the call's own buffers
 tested : (c : After-admit_bottom_up-r) →
-    OrderGives c.args.parents.now (first_unfit (wear_fits (length c.args.parents.now) (length c.args.counts.now) (length c.args.totals.now))) c.args.work.now
+    OrderGives c.args.parents.now (first_unfit (wear_fits (length c.args.parents.now) (length c.args.counts.now) (length c.args.totals.now)))
+    c.args.work.now
     c.admit_bottom_up-r.result c.admit_bottom_up-r.new.work
 tested c =
     let a = c.args in
@@ -26,7 +27,8 @@ tested c =
 grants : (c : In-Accepted) → Granted c.args.parents.now c.args.work.now c.args.counts.now c.args.totals.now
 grants c =
     let tested :
-    (OrderGives c.args.parents.now (first_unfit (wear_fits (length c.args.parents.now) (length c.args.counts.now) (length c.args.totals.now))) c.args.work.now
+    (OrderGives c.args.parents.now (first_unfit (wear_fits (length c.args.parents.now) (length c.args.counts.now) (length c.args.totals.now)))
+    c.args.work.now
     c.admit_bottom_up-r.result c.admit_bottom_up-r.new.work) =
     (subst (λ (u : ℕ). OrderGives c.args.parents.now u c.args.work.now c.admit_bottom_up-r.result c.admit_bottom_up-r.new.work)
     c.first_unfit-unfit.ensures c.admit_bottom_up-r.ensures) in
@@ -46,7 +48,9 @@ add_up-requires c =
     let g = grants (goal.at.add_up-requires c).In-Accepted in
     let same = c.admit_bottom_up-r.auto.work in
     let wide = c.widen.ensures in
-    let edges = (tested (goal.at.add_up-requires c).After-admit_bottom_up-r).edges (sym (tested (goal.at.add_up-requires c).After-admit_bottom_up-r).outcome ∙ ap verdict_of c.in-Accepted.is) in
+    let edges =
+    (tested (goal.at.add_up-requires c).After-admit_bottom_up-r).edges
+    (sym (tested (goal.at.add_up-requires c).After-admit_bottom_up-r).outcome ∙ ap verdict_of c.in-Accepted.is) in
     let ready = g.ready in
     let counted = g.count_length in (
       record { tree = ready.tree; most = ready.small },

@@ -36,8 +36,11 @@ ascend-requires c =
 
 pub loop-i-preserved : goal.loop-i-preserved
 loop-i-preserved c =
-    let l = c.loop-i.invariant in
-    (search rules, search rules, along-step c.requires.0.ready.tree l.2 c.loop-i-test.true (c.ascend.ensures ∙ ascend-is c.requires.0 (here (goal.at.loop-i-preserved c).In-loop-i)))
+    let l = c.loop-i.invariant in (
+      search rules,
+      search rules,
+      along-step c.requires.0.ready.tree l.2 c.loop-i-test.true (c.ascend.ensures ∙ ascend-is c.requires.0 (here (goal.at.loop-i-preserved c).In-loop-i)),
+    )
 
 pub returns : goal.returns
 returns c =

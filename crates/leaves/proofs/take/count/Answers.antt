@@ -32,8 +32,11 @@ pub loop-v-preserved : goal.loop-v-preserved
 loop-v-preserved c =
     let l = c.loop-v in
     let p = length (sheet (goal.at.loop-v-preserved c).After-shared_slice_known-1) + entry (goal.at.loop-v-preserved c).After-shared_slice_known-1 in
-    let taken = c.loop-v-test.true in
-    (omega arith, length-set l.work p (get_or l.work p 0 + 1) ∙ l.invariant.1, named_step (wooded (goal.at.loop-v-preserved c).After-shared_slice_known-1) l.invariant.2 taken refl refl)
+    let taken = c.loop-v-test.true in (
+      omega arith,
+      length-set l.work p (get_or l.work p 0 + 1) ∙ l.invariant.1,
+      named_step (wooded (goal.at.loop-v-preserved c).After-shared_slice_known-1) l.invariant.2 taken refl refl,
+    )
 
 pub returns : goal.returns
 returns c =
@@ -42,15 +45,22 @@ returns c =
     rw e at l.invariant.2
 
 pub bounds-work-p : goal.bounds-work-p
-bounds-work-p c = let f = here (goal.at.bounds-work-p c).After-shared_slice_known-1 in let g = wooded (goal.at.bounds-work-p c).After-shared_slice_known-1 in omega arith
+bounds-work-p c =
+    let f = here (goal.at.bounds-work-p c).After-shared_slice_known-1 in let g = wooded (goal.at.bounds-work-p c).After-shared_slice_known-1 in omega arith
 
 pub overflow_add-work : goal.overflow_add-work
 overflow_add-work c =
     let l = c.loop-v in
-    let most = count_most (names (sheet (goal.at.overflow_add-work c).After-shared_slice_known-1) (entry (goal.at.overflow_add-work c).After-shared_slice_known-1)) l.v in
-    let counted = l.invariant.2.counted (entry (goal.at.overflow_add-work c).After-shared_slice_known-1) (here (goal.at.overflow_add-work c).After-shared_slice_known-1) in
+    let most =
+    count_most (names (sheet (goal.at.overflow_add-work c).After-shared_slice_known-1)
+    (entry (goal.at.overflow_add-work c).After-shared_slice_known-1)) l.v in
+    let counted =
+    l.invariant.2.counted (entry (goal.at.overflow_add-work c).After-shared_slice_known-1)
+    (here (goal.at.overflow_add-work c).After-shared_slice_known-1) in
     let g = wooded (goal.at.overflow_add-work c).After-shared_slice_known-1 in
     omega arith
 
 pub bounds-work-p-in-loop-v : goal.bounds-work-p-in-loop-v
-bounds-work-p-in-loop-v c = let f = here (goal.at.bounds-work-p-in-loop-v c).After-shared_slice_known-1 in let g = wooded (goal.at.bounds-work-p-in-loop-v c).After-shared_slice_known-1 in omega arith
+bounds-work-p-in-loop-v c =
+    let f = here (goal.at.bounds-work-p-in-loop-v c).After-shared_slice_known-1 in
+    let g = wooded (goal.at.bounds-work-p-in-loop-v c).After-shared_slice_known-1 in omega arith

@@ -10,7 +10,8 @@ use Rattle.leaves.proofs.take.one.Goals.{After-slice_known-2-1}
 
 -- the entry, and what is left that names it
 here : (c : After-slice_known-2-1) →
-    (c.args.p < length c.args.parents.now) × (0 < get_or c.args.work.now (length c.args.parents.now + c.args.p) 0) × (c.args.found < length c.args.parents.now)
+    (c.args.p < length c.args.parents.now) × (0 < get_or c.args.work.now (length c.args.parents.now + c.args.p) 0)
+    × (c.args.found < length c.args.parents.now)
 here c = waiting-entry c.requires.0 c.requires.1
 
 pub returns : goal.returns
@@ -20,7 +21,8 @@ returns c = took-entry c.requires.0 c.requires.1 refl c.one_for_none.ensures.0
 pub bounds-work-n : goal.bounds-work-n
 bounds-work-n c =
     let here :
-    ((c.args.p < length c.args.parents.now) × (0 < get_or c.args.work.now (length c.args.parents.now + c.args.p) 0) × (c.args.found < length c.args.parents.now)) =
+    ((c.args.p < length c.args.parents.now) × (0 < get_or c.args.work.now (length c.args.parents.now + c.args.p) 0)
+    × (c.args.found < length c.args.parents.now)) =
     waiting-entry c.requires.0 c.requires.1 in
     let f = here in let g = c.requires.0.wooded in omega arith
 

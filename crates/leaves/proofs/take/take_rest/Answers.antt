@@ -20,7 +20,8 @@ one-waits c =
 
 -- it is the part at hand; there are few, and cells behind them
 here : (c : After-shared_slice_known-in-loop-at-1) →
-    (c.loop-at.v < length c.args.parents.now) × (c.loop-at.at + 1 < length c.loop-at.work) × (c.loop-at.at < length c.args.parents.now) × (c.loop-at.at < 16384)
+    (c.loop-at.v < length c.args.parents.now) × (c.loop-at.at + 1 < length c.loop-at.work) × (c.loop-at.at < length c.args.parents.now)
+    × (c.loop-at.at < 16384)
 here c =
     let l = c.loop-at in
     let f = waiting-part (one-waits c) l.at (omega arith) in
@@ -34,8 +35,10 @@ loop-at-init c = (refl, c.requires.1, λ _. refl)
 
 pub one-found-requires : goal.one-found-requires
 one-found-requires c =
-    let l = c.loop-at in
-    (one-waits (goal.at.one-found-requires c).After-shared_slice_known-in-loop-at-1, ap (λ (x : ℕ). get_or c.args.parents.now x 0) (l.invariant.2 c.loop-at-test.true))
+    let l = c.loop-at in (
+      one-waits (goal.at.one-found-requires c).After-shared_slice_known-in-loop-at-1,
+      ap (λ (x : ℕ). get_or c.args.parents.now x 0) (l.invariant.2 c.loop-at-test.true),
+    )
 
 pub loop-at-preserved : goal.loop-at-preserved
 loop-at-preserved c =

@@ -29,7 +29,8 @@ loop-left-init c = record { ends = refl; node = c.requires.2; few = c.requires.3
 pub loop-left-preserved : goal.loop-left-preserved
 loop-left-preserved c =
     let k = c.log2-k.ensures in
-    climbing-step c.requires.0.tree c.loop-left.invariant c.loop-left-test.true ((cell (goal.at.loop-left-preserved c).After-log2-k).cell ∙ rw k.is) (rw (power (goal.at.loop-left-preserved c).After-log2-k))
+    climbing-step c.requires.0.tree c.loop-left.invariant c.loop-left-test.true ((cell (goal.at.loop-left-preserved c).After-log2-k).cell ∙ rw k.is)
+    (rw (power (goal.at.loop-left-preserved c).After-log2-k))
 
 pub returns : goal.returns
 returns c = climbing-end c.loop-left.invariant c.loop-left-test.false

@@ -11,7 +11,8 @@ use Rattle.lifting.proofs.raise.apart.Given as goal
 
 abbrev pub invariant-loop-j : goal.invariant-loop-j
 invariant-loop-j l =
-    Trying (stays_apart (own l.parents)) (raise_both (own l.parents)) l.parents (suc (log2 (length l.parents))) (row l.x0 l.y0) l.at l.initial.rows l.rows l.j (row l.x l.y) l.lifts
+    Trying (stays_apart (own l.parents)) (raise_both (own l.parents)) l.parents (suc (log2 (length l.parents))) (row l.x0 l.y0) l.at l.initial.rows l.rows
+    l.j (row l.x l.y) l.lifts
 
 abbrev pub decreases-loop-j : goal.decreases-loop-j
 decreases-loop-j l = l.j

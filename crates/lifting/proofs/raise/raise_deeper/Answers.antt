@@ -24,14 +24,16 @@ pub returns-then-label-n : goal.returns-then-label-n
 returns-then-label-n c =
     let (x, y) = heights (goal.at.returns-then-label-n c).Start in
     let l = (cells (goal.at.returns-then-label-n c).Start).0 in
-    let deeper : level_at (sheet (goal.at.returns-then-label-n c).Start) c.args.y < level_at (sheet (goal.at.returns-then-label-n c).Start) c.args.x = omega (arith, c.if-label-n.true) in
+    let deeper : level_at (sheet (goal.at.returns-then-label-n c).Start) c.args.y < level_at (sheet (goal.at.returns-then-label-n c).Start) c.args.x =
+    omega (arith, c.if-label-n.true) in
     (rw (lt-ltb _ _ deeper) (ap₂ row l.cell refl), record { small = c.requires.0.small; left = l.part; right = c.requires.0.right })
 
 pub returns : goal.returns
 returns c =
     let (x, y) = heights (goal.at.returns c).Start in
     let l = (cells (goal.at.returns c).Start).1 in
-    let deeper : level_at (sheet (goal.at.returns c).Start) c.args.x ≤ level_at (sheet (goal.at.returns c).Start) c.args.y = omega (arith, c.if-label-n.false) in
+    let deeper : level_at (sheet (goal.at.returns c).Start) c.args.x ≤ level_at (sheet (goal.at.returns c).Start) c.args.y =
+    omega (arith, c.if-label-n.false) in
     (rw (le-ltb _ _ deeper) (ap₂ row refl l.cell), record { small = c.requires.0.small; left = c.requires.0.left; right = l.part })
 
 pub bounds-label-n : goal.bounds-label-n

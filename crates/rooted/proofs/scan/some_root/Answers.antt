@@ -12,7 +12,11 @@ loop-v-init c = λ _ j b h. absurd (omega arith)
 
 pub loop-v-preserved : goal.loop-v-preserved
 loop-v-preserved c = λ z.
-    elim c.if-parents-v.branch [ then-parents-v w ↦ absurd (true≢false (sym w.found-is ∙ z)) | else-parents-v w ↦ below_more _ _ (c.loop-v.invariant (sym w.found-is ∙ z)) (λ _. w.if-parents-v.false) ]
+    elim c.if-parents-v.branch [
+      | then-parents-v w ↦ absurd (true≢false (sym w.found-is ∙ z))
+      | else-parents-v w ↦ below_more _ _ (c.loop-v.invariant (sym w.found-is ∙ z))
+          (λ _. w.if-parents-v.false)
+    ]
 
 pub returns : goal.returns
 returns c = λ z j b. c.loop-v.invariant z j (omega arith)

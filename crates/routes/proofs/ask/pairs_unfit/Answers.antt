@@ -20,7 +20,8 @@ pub returns-then-question-ne0 : goal.returns-then-question-ne0
 returns-then-question-ne0 c = sym (unfit-here _ _ (ne_eqb _ _ c.if-question-ne0.true))
 
 pub returns-then-answer-ne0 : goal.returns-then-answer-ne0
-returns-then-answer-ne0 c = sym (unfit-later _ _ (eq-eqb _ _ c.if-question-ne0.false) ∙ unfit-here _ _ (ne_eqb _ _ (λ e. c.if-answer-ne0.true (threes _ _ e).0)))
+returns-then-answer-ne0 c =
+    sym (unfit-later _ _ (eq-eqb _ _ c.if-question-ne0.false) ∙ unfit-here _ _ (ne_eqb _ _ (λ e. c.if-answer-ne0.true (threes _ _ e).0)))
 
 pub returns-then-answer-question : goal.returns-then-answer-question
 returns-then-answer-question c =

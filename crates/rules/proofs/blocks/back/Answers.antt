@@ -39,13 +39,15 @@ cover-at-requires c =
 pub returns-then-tour-left : goal.returns-then-tour-left
 returns-then-tour-left c =
     let below = c.requires.0 in
-    left_back below.small.tree below.node below.carries below.other (first-is (goal.at.returns-then-tour-left c).Start) (last-is (goal.at.returns-then-tour-left c).Start) c.cover-at.ensures
+    left_back below.small.tree below.node below.carries below.other (first-is (goal.at.returns-then-tour-left c).Start)
+    (last-is (goal.at.returns-then-tour-left c).Start) c.cover-at.ensures
     (sym (left-node (goal.at.returns-then-tour-left c).After-cover-at).is ∙ c.if-tour-left.true)
 
 pub returns : goal.returns
 returns c =
     let below = c.requires.0 in
-    right-back below.small.tree below.node below.carries below.other (first-is (goal.at.returns c).Start) (last-is (goal.at.returns c).Start) c.cover-at.ensures
+    right-back below.small.tree below.node below.carries below.other (first-is (goal.at.returns c).Start) (last-is (goal.at.returns c).Start)
+    c.cover-at.ensures
     (λ e. c.if-tour-left.false ((left-node (goal.at.returns c).After-cover-at).is ∙ e))
 
 pub bounds-tour-m : goal.bounds-tour-m

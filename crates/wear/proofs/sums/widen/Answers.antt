@@ -28,7 +28,8 @@ loop-v-preserved c =
       omega arith,
       length-set l.totals l.v x ∙ l.invariant.1,
       λ j b. (
-        store-either l.totals l.v x j (get_or counts j 0) (omega arith) (λ e. ap (λ (i : ℕ). get_or counts i 0) (sym e)) (λ q. (l.invariant.2 j (omega arith)).0),
+        store-either l.totals l.v x j (get_or counts j 0) (omega arith) (λ e. ap (λ (i : ℕ). get_or counts i 0) (sym e))
+            (λ q. (l.invariant.2 j (omega arith)).0),
         by_equal j l.v (λ e. let f = count_fits c in rw e f) (λ q. (l.invariant.2 j (omega arith)).1),
       ),
     )
