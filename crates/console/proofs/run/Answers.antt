@@ -1,6 +1,5 @@
 -- `console::run` meets its contract: a buffer that holds whatever is printed is given the text, and a shorter one is left as it was.
 -- Assumes nothing.
-use borrow.Author.Rules.{rules}
 use Rattle.console.proofs.Ending.{run_short, run-text}
 use Rattle.console.proofs.run.Goals as goal
 

@@ -1,8 +1,5 @@
 -- `console::ask::question` meets its contract: the next line is taken as a question.
 -- Assumes nothing.
-use native.Mathlib.Omega.{arith}
-use borrow.Author.Rules.{rules}
-use mathlib.Core.Logic.{⊎_elim}
 use Rattle.console.proofs.Taking.{question-unread, question-none, question-own}
 use Rattle.console.proofs.ask.question.Goals as goal
 

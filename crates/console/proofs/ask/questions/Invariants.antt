@@ -2,12 +2,10 @@
 -- have their lengths. The measure is what is left of the input.
 -- Assumes nothing.
 use Prim.Native.Nat.{◌-◌}
-use native.Mathlib.Omega.{arith}
-use mathlib.Core.Path.{◌≡◌, refl, ◌∙◌}
-use borrow.Author.Rules.{rules}
+use mathlib.Core.Path.{◌≡◌}
 use lib.ListN.{length}
 use Rattle.tree.specs.Buffers.{work_cells}
-use Rattle.console.proofs.Asking.{AnsweredUpto, answered-none, answered-length, answered-all, question-room, question-answered, illegible-room, illegible-last}
+use Rattle.console.proofs.Asking.{AnsweredUpto}
 use Rattle.console.proofs.ask.questions.Given as goal
 
 abbrev pub invariant-loop-i : goal.invariant-loop-i

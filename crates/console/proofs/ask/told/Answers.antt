@@ -1,7 +1,6 @@
 -- `console::ask::told` meets its contract: case by case, as the definition has it.
 -- Assumes nothing.
 use mathlib.Core.Path.{refl}
-use borrow.Author.Rules.{rules}
 use Rattle.console.proofs.ask.told.Goals as goal
 
 pub returns-in-Refused : goal.returns-in-Refused

@@ -2,12 +2,7 @@
 -- Assumes nothing.
 use native.Mathlib.Omega.{arith}
 use borrow.Author.Rules.{rules}
-use Prim.Native.Nat.{◌-◌, ◌≤◌}
-use mathlib.Core.Path.{◌≡◌}
-use lib.ListN.{length, take}
-use lib.Seq.{take_all}
 use Rattle.text.specs.Bytes.{bytes}
-use Rattle.text.specs.Puts.{Puts}
 use Rattle.text.proofs.Putting.{puts_none}
 use Rattle.lines.specs.Forms.{list_text}
 use Rattle.console.proofs.Printed.{list-room, list-next}
@@ -19,13 +14,9 @@ loop-i-init c = (search rules, search rules, puts_none (omega arith))
 
 pub put_word_number-end-requires : goal.put_word_number-end-requires
 unfolding bytes
-put_word_number-end-requires c =
-    list-room _ _ c.requires c.loop-i-test.true c.loop-i.invariant.2
+put_word_number-end-requires c = list-room _ _ c.requires c.loop-i-test.true c.loop-i.invariant.2
 
 pub loop-i-preserved : goal.loop-i-preserved
 unfolding bytes
 loop-i-preserved c =
     (search rules, search rules, list-next _ _ c.requires c.loop-i-test.true c.loop-i.invariant.2 c.put_word_number-end.ensures)
-
-pub returns : goal.returns
-returns c = rw (take_all _ _ c.loop-i-test.false) at c.loop-i.invariant.2

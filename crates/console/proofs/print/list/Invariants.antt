@@ -1,16 +1,10 @@
 -- `console::print::list` meets its contract: with i numbers written, the buffer is the old one with their text laid over it.
 -- Assumes nothing.
-use native.Mathlib.Omega.{arith}
-use borrow.Author.Rules.{rules}
 use Prim.Native.Nat.{◌-◌, ◌≤◌}
 use mathlib.Core.Path.{◌≡◌}
 use lib.ListN.{length, take}
-use lib.Seq.{take_all}
-use Rattle.text.specs.Bytes.{bytes}
 use Rattle.text.specs.Puts.{Puts}
-use Rattle.text.proofs.Putting.{puts_none}
 use Rattle.lines.specs.Forms.{list_text}
-use Rattle.console.proofs.Printed.{list-room, list-next}
 use Rattle.console.proofs.print.list.Given as goal
 
 abbrev pub invariant-loop-i : goal.invariant-loop-i

@@ -1,7 +1,6 @@
 -- `console::print::outcome` meets its contract: an outcome that accepts writes nothing, and a refusal its line.
 -- Assumes nothing.
 use native.Mathlib.Omega.{arith}
-use borrow.Author.Rules.{rules}
 use Rattle.text.proofs.Putting.{puts_none}
 use Rattle.console.specs.Print.{given}
 use Rattle.console.proofs.print.outcome.Goals as goal

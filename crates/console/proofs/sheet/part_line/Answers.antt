@@ -1,8 +1,5 @@
 -- `console::sheet::part_line` meets its contract: the next line is taken as the line of its part.
 -- Assumes nothing.
-use native.Mathlib.Omega.{arith}
-use borrow.Author.Rules.{rules}
-use mathlib.Core.Logic.{⊎_elim}
 use Rattle.console.proofs.Taking.{entry-unread, entry-none, entry_other, entry-own}
 use Rattle.console.proofs.sheet.part_line.Goals as goal
 

@@ -1,10 +1,8 @@
 -- `console::sheet::part_lines` meets its contract. The loop's invariant: the entries of the parts before v were read and stand in the sheet, and the line
 -- of part v begins at i. Assumes nothing.
-use Prim.Native.Nat.{◌-◌}
-use mathlib.Core.Path.{◌≡◌, refl}
+use mathlib.Core.Path.{refl}
 use borrow.Author.Rules.{rules}
-use lib.ListN.{length}
-use Rattle.console.proofs.Entering.{Entered, entered-none, entered_all, entered-broken, entered-more}
+use Rattle.console.proofs.Entering.{entered-none, entered_all, entered-broken, entered-more}
 use Rattle.console.proofs.sheet.part_lines.Goals as goal
 
 pub loop-v-init : goal.loop-v-init

@@ -1,10 +1,9 @@
 -- `console::sheet::part_lines` meets its contract. The loop's invariant: the entries of the parts before v were read and stand in the sheet, and the line
 -- of part v begins at i. Assumes nothing.
 use Prim.Native.Nat.{◌-◌}
-use mathlib.Core.Path.{◌≡◌, refl}
-use borrow.Author.Rules.{rules}
+use mathlib.Core.Path.{◌≡◌}
 use lib.ListN.{length}
-use Rattle.console.proofs.Entering.{Entered, entered-none, entered_all, entered-broken, entered-more}
+use Rattle.console.proofs.Entering.{Entered}
 use Rattle.console.proofs.sheet.part_lines.Given as goal
 
 abbrev pub invariant-loop-v : goal.invariant-loop-v

@@ -1,7 +1,5 @@
 -- `console::size::lift_cells` meets its contract: the most parts bound its product.
 -- Assumes nothing.
-use native.Mathlib.Omega.{arith}
-use borrow.Author.Rules.{rules}
 use mathlib.Core.Path.{refl}
 use Rattle.console.proofs.Sizes.{lift-small}
 use Rattle.console.proofs.size.lift_cells.Goals as goal

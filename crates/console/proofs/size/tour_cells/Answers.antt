@@ -1,7 +1,5 @@
 -- `console::size::tour_cells` meets its contract: the most parts bound its product and its sum.
 -- Assumes nothing.
-use native.Mathlib.Omega.{arith}
-use borrow.Author.Rules.{rules}
 use mathlib.Core.Path.{refl}
 use Rattle.console.proofs.Sizes.{tour-small}
 use Rattle.console.proofs.size.tour_cells.Goals as goal
