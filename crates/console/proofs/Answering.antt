@@ -1,7 +1,7 @@
 -- What is printed of a question: where the tables are the sheet's own and the buffers fit, the question alone decides, and the calls give its carrier,
 -- its branches and its lifts.
 -- Assumes nothing.
-use Prim.Native.Nat.{ℕ}
+use Prim.Native.Nat.{ℕ, ◌<◌}
 use native.Mathlib.Omega.{arith}
 use mathlib.Core.Path.{◌≡◌, refl, sym, ap, ap₂, ◌∙◌}
 use mathlib.Core.List.{List, [], ◌∷◌}
@@ -12,7 +12,7 @@ use Rattle.tree.specs.declared.Outcome.TheVariants as outcome
 use Rattle.tree.specs.declared.Traced.{Traced}
 use Rattle.tree.specs.declared.Traced.TheVariants as traced
 use Rattle.tree.specs.Verdict.{Verdict, accepted, refused, verdict_of, told, lifts_of}
-use Rattle.tree.specs.Tests.{verdict, question_tests}
+use Rattle.tree.specs.Tests.{verdict, limit, question_tests}
 use Rattle.tree.specs.Buffers.{answer_width, trail_cells}
 use Rattle.tree.specs.Lca.{Lca, lca}
 use Rattle.tree.specs.Tables.{Lent}
@@ -27,6 +27,7 @@ use Rattle.lines.specs.Forms.{pair, many}
 use Rattle.console.specs.Print.{pair_line, many_line, given}
 use Rattle.console.specs.Run.{answer}
 use Rattle.console.specs.Gives.{Stands, Found}
+use Rattle.console.proofs.Carriers.{carrier-small}
 
 -- a verdict that refuses prints its line, whatever would be printed else
 pub given-refused : {v u : Verdict} {number place : ℕ} (text : List ℕ) → v ≡ refused number place → v ≡ u → given v [] ≡ given u text
@@ -49,12 +50,14 @@ module _ {t : Lent} {work : List ℕ} (stands : Stands t work) where
       ap (λ (u : Lent). asked_verdict u work question further) stands.tables
       ∙ question-decides t.parents stands.accepts work question further stands.room fits
 
-  -- a carrier of an accepted question is the one that the climber finds
+  -- a carrier of an accepted question is a part, and the one that the climber finds
   carrier-is : (question : List ℕ) (c : ℕ) → verdict (question_tests t.parents 0 question) ≡ accepted → Lca t.parents question c
-      → c ≡ lca t.parents question
+      → (c < limit) × (c ≡ lca t.parents question)
   carrier-is question c e l =
-      let (some, inside) = question-accepted t.parents 0 question e in
-      (one-carrier t.parents stands.accepts question some (question-parts t.parents question inside)).1 c l
+      let (some, inside) = question-accepted t.parents 0 question e in (
+        carrier-small t.parents stands.accepts question e c l,
+        (one-carrier t.parents stands.accepts question some (question-parts t.parents question inside)).1 c l,
+      )
 
   -- ---- a pair by a route
 
@@ -117,10 +120,14 @@ module _ {t : Lent} {work : List ℕ} (stands : Stands t work) where
       list-yes : verdict_of r ≡ accepted
       list-yes = ap verdict_of e
 
-      list-carrier : get_or cells' 0 0 ≡ lca t.parents question
+      list-carrier : (get_or cells' 0 0 < limit) × (get_or cells' 0 0 ≡ lca t.parents question)
       list-carrier = carrier-is _ _ (sym list-decides ∙ list-yes) (g.carrier (sym g.answered.outcome ∙ list-yes))
+
+      -- which is small
+      pub many-small : get_or cells' 0 0 < limit
+      many-small = list-carrier.0
 
       -- answered
       pub many-answered : many_line question (get_or cells' 0 0) ≡ answer t.parents (many question)
       unfolding answer
-      many-answered = rw list-carrier (given-accepted _ list-yes list-decides)
+      many-answered = rw list-carrier.1 (given-accepted _ list-yes list-decides)

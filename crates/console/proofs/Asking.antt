@@ -13,7 +13,7 @@ use Rattle.tree.proofs.Scans.{by-test}
 use Rattle.text.specs.Bytes.{lf}
 use Rattle.text.specs.Lines.{Lines, tail, line, before, lines}
 use Rattle.text.specs.Puts.{Room, Puts}
-use Rattle.text.proofs.Putting.{puts_none, puts_then, room-first, room-then}
+use Rattle.text.proofs.Putting.{puts_none, puts-length, puts_then, room-first, room-then}
 use Rattle.lines.specs.Forms.{Query, Form, machine, part, asked}
 use Rattle.lines.specs.Read.{read, next, query, next_as}
 use Rattle.lines.specs.Gives.{query_of}
@@ -94,6 +94,10 @@ module _ {input : List ℕ} {at first : ℕ} {s entry : List ℕ} {put : ℕ} (r
   rest-last {rest} e p =
       let whole : questions s first (lines (drop at input)) ≡ d.text ++ rest = d.is ∙ ap (λ (u : List ℕ). d.text ++ u) e in
       rw whole (puts_then d.text rest (rw whole at room) d.puts p)
+
+  -- the buffer keeps its length
+  pub answered-length : length out ≡ length entry
+  answered-length = puts-length (room-first _ d.text _ (rw d.is at room)) d.puts
 
   -- at the input's end all are answered
   pub answered-all : length input ≤ i → Puts entry put (questions s first (lines (drop at input))) out next

@@ -9,10 +9,11 @@ use mathlib.Core.List.{List, [], ◌∷◌, ◌++◌, append-nil, append_assoc}
 use mathlib.Core.Option.{none, some, Option-elim}
 use lib.ListN.{length, take, drop, set, length-set}
 use lib.Seq.{take_all, take-suc-set}
+use Rattle.tree.specs.Tables.{Lent}
 use Rattle.text.specs.Lines.{Lines, lines}
 use Rattle.lines.specs.Read.{entry, next_as}
 use Rattle.console.specs.Run.{Sheet, sheet, broken, first, part_line, parts}
-use Rattle.console.specs.Gives.{EntryGives, sheet_of, EntriesGive}
+use Rattle.console.specs.Gives.{EntryGives, sheet_of, EntriesGive, Sized}
 use Rattle.console.specs.declared.sheet.Entry.{Entry}
 use Rattle.console.specs.declared.sheet.Entry.TheVariants as parent
 use Rattle.console.specs.declared.sheet.Entries.{Entries}
@@ -91,3 +92,16 @@ module _ {input : List ℕ} {at : ℕ} {s : List ℕ} {i v : ℕ} (f : Entered i
 pub sheet-read : {input : List ℕ} {at n : ℕ} {s : List ℕ} {r r' : Entries} → EntriesGive input at s r → r ≡ r' → length s ≡ n
     → sheet_of input s r' ≡ parts n 0 (lines (drop at input))
 sheet-read {input} {at} {n} {s} g e long = rw e at g.is ∙ ap (λ (k : ℕ). parts k 0 (lines (drop at input))) long
+
+-- it goes with the same tables and work
+pub sized-as : {t : Lent} {work s : List ℕ} → Sized t work → length s ≡ length t.parents
+    → Sized (record { parents = s; label = t.label; tour = t.tour; lift = t.lift; order = t.order }) work
+sized-as z e = record {
+  some = rw e z.some;
+  small = rw e z.small;
+  label_length = rw e z.label_length;
+  tour_length = rw e z.tour_length;
+  lift_length = rw e z.lift_length;
+  order_length = rw e z.order_length;
+  room = rw e z.room;
+}

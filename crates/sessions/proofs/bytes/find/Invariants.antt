@@ -1,7 +1,6 @@
 -- `sessions::bytes::find` ends, and stays within the text.
 -- Assumes nothing.
 use Prim.Native.Nat.{◌-◌, ◌≤◌}
-use borrow.Author.Rules.{rules}
 use lib.ListN.{length}
 use Rattle.sessions.proofs.bytes.find.Given as goal
 

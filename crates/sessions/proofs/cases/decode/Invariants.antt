@@ -1,12 +1,8 @@
 -- `sessions::cases::decode` ends, and writes within the buffer.
 -- Assumes nothing.
 use Prim.Native.Nat.{◌-◌}
-use mathlib.Core.Path.{◌≡◌, ap, ◌∙◌}
-use mathlib.Core.Logic.{⊎_elim}
-use native.Mathlib.Omega.{arith}
-use lib.ListN.{length, length-set}
-use borrow.Author.Tests.{ltb-true}
-use borrow.Author.Rules.{rules}
+use mathlib.Core.Path.{◌≡◌}
+use lib.ListN.{length}
 use Rattle.sessions.proofs.cases.decode.Given as goal
 
 abbrev pub invariant-loop-i : goal.invariant-loop-i

@@ -1,7 +1,6 @@
 -- `sessions::cases::run_all` ends, and comes to the end of the text.
 -- Assumes nothing.
 use Prim.Native.Nat.{◌+◌, ◌-◌, ◌≤◌}
-use borrow.Author.Rules.{rules}
 use lib.ListN.{length}
 use Rattle.sessions.proofs.cases.run_all.Given as goal
 

@@ -3,7 +3,6 @@
 use Prim.Native.Nat.{◌-◌, ◌≤◌}
 use mathlib.Core.Path.{◌≡◌}
 use lib.ListN.{length}
-use borrow.Author.Rules.{rules}
 use Rattle.sessions.proofs.large.parts.Given as goal
 
 abbrev pub invariant-loop-v : goal.invariant-loop-v
