@@ -6,4 +6,6 @@ pub mod Runs
 pub mod Named
 pub mod Granted
 pub mod Demand3
+pub mod RunsLent
 pub mod RunsExist
+pub mod SomeRuns

@@ -2,15 +2,13 @@
 -- never holds, nor two of them that contradict each other. What is asked is taken in document 01's plain words; `Some` and `Lends` are derived.
 -- Assumes nothing.
 use Prim.Native.Nat.{ℕ, ◌%◌, ◌<◌}
-use native.Mathlib.Omega.{arith}
 use mathlib.Core.Path.{◌≡◌, refl, sym, ap, ◌∙◌, subst}
 use mathlib.Core.List.{List, [], ◌∷◌}
 use borrow.Fn.Kinds.{Out, Dens, ended_of}
 use contract.Lifetimes.{Lfts}
 use denote.Ref.{Bor, MutBor}
 use denote.Triple.Clauses.{AtExit}
-use lib.Dec.{lit<}
-use lib.ListN.{length, get_or, replicate, length-replicate}
+use lib.ListN.{length, get_or}
 use Rattle.tree.specs.declared.Outcome.TheVariants.{Accepted}
 use Rattle.tree.specs.declared.Traced.TheVariants as traced
 use Rattle.tree.specs.Tests as tests
@@ -29,22 +27,23 @@ use Rattle.tree.specs.Branch.{answer_by}
 use Rattle.tree.specs.Pairs.{each_answer}
 use Rattle.tree.specs.Trail.{trail, by_lifts, lifts, trail_buffer}
 use Rattle.tree.proofs.Rows.{length-tabulate, cell-tabulate}
-use Rattle.tree.proofs.Lcas.{lca-found, each-of_two}
+use Rattle.tree.proofs.Lcas.{lca-found}
 use Rattle.tree.proofs.Answers.{work-accepted}
 use Rattle.tree.proofs.Acceptance.{accepted-tree}
 use Rattle.routes.specs.declared.Route.{Route}
 use Rattle.routes.specs.declared.Route.TheVariants.{Labels, Tour, Lifts}
 use Rattle.routes.specs.Rules.{rule_of}
-use Rattle.routes.specs.Answers.{Admitted, Asked, pairs_unfit, PairsGive, list_unfit, ListGives, trail_unfit, TrailGives}
-use Rattle.routes.specs.Lends.{Some, Lends}
+use Rattle.routes.specs.Answers.{Admitted, pairs_unfit, PairsGive, list_unfit, ListGives, trail_unfit, TrailGives}
+use Rattle.routes.specs.Lends.{Some}
 use Rattle.routes.proofs.list.Kinds as list
 use Rattle.routes.proofs.Giving.{pairs-answered, list-answered, trail-answered}
 use Rattle.routes.proofs.Granted.{pairs-lent-fit, list-lent-fit, trail-lent-fit, granted}
 use Rattle.routes.proofs.Named.{pair-some, other-some, group-some, carriers-some}
 use Rattle.routes.proofs.Runs.{Run, ListRun, TrailRun}
+use Rattle.routes.proofs.RunsLent.{zeros, zeros-length, clear, lent, lends}
 use Rattle.routes.proofs.Demand3.{Runs}
 
--- ---- what a run is lent, and what it leaves
+-- ---- what a run is passed, and what it leaves
 
 -- a reference to some cells; where they stand makes no difference to a contract
 abbrev ref : List ℕ → Bor (List ℕ)
@@ -54,41 +53,17 @@ ref l = record { ref_ptr = (0, 0); now = l }
 abbrev mut_ref : List ℕ → MutBor (List ℕ)
 mut_ref l = record { ref_ptr = (0, 0); ghost_name = 0; now = l }
 
--- so many cells that hold 0
-abbrev zeros : ℕ → List ℕ
-zeros k = replicate {A = ℕ} k 0
-
-zeros-length : (k : ℕ) → length (zeros k) ≡ k
-zeros-length k = length-replicate {A = ℕ} k 0
-
 -- lifetimes of the references; a contract says nothing of them
 abbrev lifetimes : Lfts 8
 lifetimes = ([], ([], ([], ([], ([], ([], ([], ([], tt))))))))
 
 module _ (s : List ℕ) where
-  -- work that fits
-  abbrev clear : List ℕ
-  clear = zeros (work_cells (length s))
-
-  -- the sheet's own tables, work that fits, a question and an answer of so many cells
-  abbrev lent : List ℕ → ℕ → Asked
-  lent question cells = record { lent = own s; work = clear; question = question; answer = zeros cells }
-
-  -- that is what `Lends` asks for
-  lends : (question : List ℕ) (cells : ℕ) → Lends s question cells (lent question cells)
-  lends question cells = record {
-    tables = refl;
-    work-fits = zeros-length (work_cells (length s));
-    asks = refl;
-    answer-fits = zeros-length cells;
-  }
-
   -- references to the sheet, its tables, clear work and a question, with those after them: what a call is passed, and what it leaves
   abbrev Refs : Type 0 → Type 0
   Refs A = Bor (List ℕ) × (Bor (List ℕ) × (Bor (List ℕ) × (Bor (List ℕ) × (Bor (List ℕ) × (MutBor (List ℕ) × (Bor (List ℕ) × A))))))
 
   abbrev refs : {A : Type 0} → List ℕ → A → Refs A
-  refs question more = (ref s, (ref (label_table s), (ref (tour_table s), (ref (lift_table s), (ref (preorder s), (mut_ref clear, (ref question, more)))))))
+  refs question more = (ref s, (ref (label_table s), (ref (tour_table s), (ref (lift_table s), (ref (preorder s), (mut_ref (clear s), (ref question, more)))))))
 
   -- of pairs and of a list
   abbrev passed : List ℕ → ℕ → Dens lifetimes list.ps
@@ -226,11 +201,3 @@ runs-exist s accepts question asked parts even listed other named parts-listed s
       },
       record { the-question = refl; the-list = refl; the-other = refl; the-groups = refl; the-sharing = refl; the-left = refl; the-right = refl },
     )
-
--- and something can be asked of every accepted sheet: its part 0, paired with itself, listed twice and shared out into one group
-pub some_runs : (s : List ℕ) → tests.Accepted s → Runs s
-some_runs s accepts =
-    let first : 0 < length s = omega (arith, (tree s accepts).root-inside) in
-    let twice : Parts s (0 ∷ 0 ∷ []) = each-of_two (λ v. v < length s) first first in
-    (runs-exist s accepts (0 ∷ 0 ∷ []) (lit< tt) twice refl (0 ∷ 0 ∷ []) (0 ∷ 0 ∷ []) (lit< tt) twice (λ x. (λ m. m, λ m. m)) 1 (λ i. 0)
-    (record { given = λ i h. lit< tt; nonempty = λ g h. (0, lit< tt, omega arith) }) 0 0 first first).0
