@@ -8,7 +8,7 @@ What is renamed, in specs/, proofs/, the clauses of src/, must-fail/ and the doc
   1. a name in lower camel case that an .antt file declares or binds: `lowestOne` becomes `lowest_one`;
   2. a dashed name in which such a name's words stood apart: `row-cells-length`, a law of `rowCells`, becomes `row_cells-length`;
   3. a law that would then have its definition's name ends in `_lem`: `least-from`, of `leastFrom`, becomes `least_from_lem`.
-Functions of src/, strings, inputs and outputs are left alone. Nothing is renamed where two names would still fall together.
+Functions of src/, strings, inputs and outputs are left alone. Names that would still fall together are printed.
 """
 import os
 import re
