@@ -13,7 +13,7 @@ returns-in_default c = rw (c.told.ensures, trail-refused c.requires.stands c.tra
 
 -- where it is traced, its line
 pub pair-requires : goal.pair-requires
-pair-requires c = rw (pair-answered c.requires.stands c.trail-r.ensures refl refl c.in-Lifts.is c.requires.found) c.requires.room
+pair-requires c = rw (← pair-answered c.requires.stands c.trail-r.ensures refl refl c.in-Lifts.is c.requires.found) at c.requires.room
 
 pub returns : goal.returns
 returns c = rw (pair-answered c.requires.stands c.trail-r.ensures refl refl c.in-Lifts.is c.requires.found) at c.pair.ensures
