@@ -9,7 +9,7 @@ use mathlib.Core.List.{List}
 use borrow.Author.Tests.{not-false, lt-leb}
 use lib.ListN.{length}
 use Rattle.tree.specs.declared.Refusal.{Refusal}
-use Rattle.tree.specs.declared.Outcome.TheVariants.{Refused}
+use Rattle.std.proofs.Common.{Err}
 use Rattle.tree.specs.Tree.{parent, climb, is_root, next_root, root_of, Tree}
 use Rattle.tree.specs.Verdict.{refused, number_of, place_of}
 use Rattle.tree.specs.Tests.{verdict, tree_tests, outside, lost, first_outside, first_lost}
@@ -65,5 +65,5 @@ lost-none {s} {r} one none_is = record {
 
 -- a refusal leaves no order
 pub tested-refused : {s w : List ℕ} {shift : ℕ} {ordered : Bool} (why : Refusal) → verdict (tree_tests shift s) ≡ refused (number_of why) (place_of why)
-    → TreeTested s shift ordered (Refused why) w
+    → TreeTested s shift ordered (Err why) w
 tested-refused why e = record { outcome = sym e; edges = λ _ a. absurd (not-both a e) }

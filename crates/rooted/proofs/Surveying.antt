@@ -1,9 +1,10 @@
 -- The pass that finds a sheet's one root: how many name themselves, which one does, and the largest entry.
 -- Assumes nothing.
-use Prim.Native.Nat.{ℕ, suc, ◌+◌, ◌-◌, ◌≤◌, ◌<◌, zero-le}
+use Prim.Native.Nat.{ℕ, suc, ◌+◌, ◌-◌, ◌≤◌, ◌<◌, max, zero-le}
 use native.Mathlib.Omega.{arith}
 use mathlib.Core.Path.{◌≡◌, refl, sym, ap, ◌∙◌}
 use mathlib.Core.Bool.{cond}
+use Rattle.std.proofs.Math.Nat.{le-max_left, le-max_right, max-le}
 use mathlib.Core.List.{List}
 use borrow.Author.Tests.{eq-eqb, ne_eqb, lt-ltb, le-ltb}
 use lib.Bits.{bit_or, or_zero_l, or_zero_r}
@@ -30,19 +31,14 @@ unfolding count_below
 surveyed-start s =
     record { within = omega arith; entries = λ j h. absurd (omega arith); lowest = λ b h. zero-le; counted = refl; none = λ _. refl; one = λ e. absurd (omega arith) }
 
--- the larger of two numbers is no less than either, and no more than what both are at most
-larger-is : (a b r : ℕ) → r ≡ cond (ltb a b) b a → (a ≤ r) × (b ≤ r) × ((m : ℕ) → a ≤ m → b ≤ m → r ≤ m)
-larger-is a b r e =
-    by_order b a
-    (λ h. let is : r ≡ a = e ∙ (rw (le-ltb a b h)) in (omega arith, omega arith, λ m p q. omega arith))
-    (λ h. let is : r ≡ b = e ∙ (rw (lt-ltb a b h)) in (omega arith, omega arith, λ m p q. omega arith))
-
 pub surveyed-step : {s : List ℕ} {v most roots root most' more own : ℕ} → Surveyed s v most roots root → v < length s
-    → most' ≡ cond (ltb most (get_or s v 0)) (get_or s v 0) most → more ≡ cond (eqb (get_or s v 0) v) 1 0 → own ≡ cond (eqb (get_or s v 0) v) v 0
+    → most' ≡ max most (get_or s v 0) → more ≡ cond (eqb (get_or s v 0) v) 1 0 → own ≡ cond (eqb (get_or s v 0) v) v 0
     → Surveyed s (v + 1) most' (roots + more) (bit_or root own)
 unfolding count_below is_root parent
 surveyed-step {s} {v} {most} {roots} {root} {most'} {more} {own} l h larger count is =
-    let (grown, here, either) = larger-is most (get_or s v 0) most' larger in
+    let grown : most ≤ most' = rw larger (le-max_left most (get_or s v 0)) in
+    let here : get_or s v 0 ≤ most' = rw larger (le-max_right most (get_or s v 0)) in
+    let either : (m : ℕ) → most ≤ m → get_or s v 0 ≤ m → most' ≤ m = λ m p q. rw larger (max-le p q) in
     let e : v + 1 ≡ suc v = omega arith in
     let before = l.counted in
     let entries : (j : ℕ) → j < v + 1 → get_or s j 0 ≤ most' =

@@ -1,18 +1,9 @@
 -- What tests 4 to 7 give, with an order where one is asked for.
 -- Assumes nothing.
 use Rattle.std.specs.Prelude.{ℕ, ◌≡◌, Bool, true, List}
-use Rattle.tree.specs.declared.Refusal.{Refusal}
-use Rattle.tree.specs.declared.Outcome.{Outcome}
-use Rattle.tree.specs.declared.Outcome.TheVariants.{Refused}
-use Rattle.tree.specs.Verdict.{accepted, refused, verdict_of, number_of, place_of}
+use Rattle.tree.specs.Verdict.{accepted, Outcome, verdict_of}
 use Rattle.tree.specs.Tests.{verdict, tree_tests}
 use Rattle.tree.specs.BottomUp.{Edges}
-
--- a refusal by tests 4 to 6
-pub record RootRefused (s : List ℕ) (shift : ℕ) (r : Outcome) : Type 0 where
-  pub why : Refusal
-  pub is : r ≡ Refused why
-  pub refusal : verdict (tree_tests shift s) ≡ refused (number_of why) (place_of why)
 
 -- the answer to tests 4 to 7, the parts counted from `shift` on; and, of a sheet that is accepted, its edges in w where they are asked for
 pub record TreeTested (s : List ℕ) (shift : ℕ) (ordered : Bool) (r : Outcome) (w : List ℕ) : Type 0 where

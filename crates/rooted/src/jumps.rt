@@ -34,11 +34,8 @@ fn jump_rising(parents: &[u16], root: usize, work: &mut [u16]) -> u16
     let n = parents.len();
     let top = root as u16;
     let mut bits: u16 = 0;
-    let mut v = 0;
-    while v < n {
-        let up = hop(v, work);
-        bits = bits | (up ^ top);
-        v += 1;
+    for v in 0..n {
+        bits |= hop(v, work) ^ top;
     }
     bits
 }
@@ -50,11 +47,8 @@ fn jump_falling(parents: &[u16], root: usize, work: &mut [u16]) -> u16
 {
     let top = root as u16;
     let mut bits: u16 = 0;
-    let mut v = parents.len();
-    while 0 < v {
-        v -= 1;
-        let up = hop(v, work);
-        bits = bits | (up ^ top);
+    for v in (0..parents.len()).rev() {
+        bits |= hop(v, work) ^ top;
     }
     bits
 }
@@ -76,12 +70,10 @@ fn first_unrooted(parents: &[u16], root: usize, work: &[u16]) -> usize
     ensures { result ≡ first_lost parents.now }
 {
     let n = parents.len();
-    let mut v = 0;
-    while v < n {
+    for v in 0..n {
         if work[v] as usize != root {
             return v;
         }
-        v += 1;
     }
-    v
+    n
 }

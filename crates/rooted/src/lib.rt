@@ -8,12 +8,13 @@ mod scan;
 
 ghost use Rattle.std.specs.Prelude.{◌≡◌, true, ℕ, ◌≤◌, length};
 ghost use Rattle.tree.specs.Tree.{root_of};
-ghost use Rattle.tree.specs.Tests.{limit, first_lost};
+ghost use Rattle.tree.specs.Verdict.{refused, number_of, place_of};
+ghost use Rattle.tree.specs.Tests.{limit, verdict, tree_tests, first_lost};
 ghost use Rattle.tree.specs.BottomUp.{OneRoot, Edges};
 ghost use Rattle.rooted.specs.Jumps.{Roomy, Rooted};
-ghost use Rattle.rooted.specs.Tested.{RootRefused, TreeTested};
+ghost use Rattle.rooted.specs.Tested.{TreeTested};
 
-use tree::{Outcome, Refusal};
+use tree::Refusal;
 
 // The part that names itself, of a sheet that has one; else the lowest such part, or the number of parts where there is none.
 pub fn root(parents: &[u16]) -> usize
@@ -25,38 +26,36 @@ pub fn root(parents: &[u16]) -> usize
 // Tests 4 to 7, the parts counted from `shift` on. The loop test keeps its links in `work`; where the sheet is accepted and an order is asked for, the first
 // n − 1 cells are a bottom-up order afterwards, and the third n the entries beside it. Whether tests 4 to 6 pass is told by one pass; only where they do not,
 // the first that fails is looked for.
-pub fn test_tree(parents: &[u16], shift: usize, ordered: bool, work: &mut [u16]) -> Outcome
+pub fn test_tree(parents: &[u16], shift: usize, ordered: bool, work: &mut [u16]) -> Result<(), Refusal>
     requires { Roomy parents.now work.old × (shift ≤ limit) }
     ensures { TreeTested parents.now shift ordered result work.new }
 {
-    let n = parents.len();
-    let root = scan::lone_root(parents);
-    if n <= root {
-        return refuse_root(parents, shift);
-    }
+    let Some(root) = scan::lone_root(parents) else {
+        return Err(refuse_root(parents, shift));
+    };
     let v = first_lost(parents, root, ordered, work);
-    if v < n {
-        return Outcome::Refused(Refusal::Cycle(shift + v));
+    if v < parents.len() {
+        return Err(Refusal::Cycle(shift + v));
     }
-    Outcome::Accepted
+    Ok(())
 }
 
-// The refusal of a sheet that does not pass tests 4 to 6.
-fn refuse_root(parents: &[u16], shift: usize) -> Outcome
+// Why a sheet is refused that does not pass tests 4 to 6.
+fn refuse_root(parents: &[u16], shift: usize) -> Refusal
     requires { (length parents.now ≤ limit) × (shift ≤ limit) × ((r : ℕ) → OneRoot parents.now r → ⊥) }
-    ensures { RootRefused parents.now shift result }
+    ensures { verdict (tree_tests shift parents.now) ≡ refused (number_of result) (place_of result) }
 {
     let n = parents.len();
     let off = cells::first_from(parents, n);
     if off < n {
-        return Outcome::Refused(Refusal::ParentOutOfRange(shift + off));
+        return Refusal::ParentOutOfRange(shift + off);
     }
     let root = root(parents);
     if n <= root {
-        return Outcome::Refused(Refusal::NoRoot);
+        return Refusal::NoRoot;
     }
     let second = scan::second_root(parents, root);
-    Outcome::Refused(Refusal::SecondRoot(shift + second))
+    Refusal::SecondRoot(shift + second)
 }
 
 // The lowest part whose climb never meets the root; the number of parts where there is none.

@@ -1,45 +1,32 @@
 // One pass over a sheet: the parts that name themselves, and whether all entries are parts.
 
-ghost use Rattle.std.specs.Prelude.{◌≡◌, ℕ, suc, ◌≤◌, ◌<◌, false, cond, ◌≢◌, eqb, ltb, length, get_or};
+ghost use Rattle.std.specs.Prelude.{◌≡◌, ℕ, suc, ◌≤◌, ◌<◌, false, cond, ◌≢◌, eqb, length, get_or, MatchOption};
 ghost use Rattle.tree.specs.Tree.{next_root};
 ghost use Rattle.tree.specs.Tests.{limit};
 ghost use Rattle.tree.specs.BottomUp.{OneRoot};
 
-// The one part that names itself, where every entry is a part; else the number of parts. It stops at no part, so that several are looked at at once.
-pub(crate) fn lone_root(parents: &[u16]) -> usize
+// The one part that names itself, where every entry is a part. It stops at no part, so that several are looked at at once.
+pub(crate) fn lone_root(parents: &[u16]) -> Option<usize>
     requires { length parents.now ≤ limit }
-    ensures { (result < length parents.now → OneRoot parents.now result)
-        × (length parents.now ≤ result → (q : ℕ) → OneRoot parents.now q → ⊥) }
+    ensures { MatchOption result ((q : ℕ) → OneRoot parents.now q → ⊥) (OneRoot parents.now) }
 {
     let n = parents.len();
     let mut most: u16 = 0;
     let mut roots: u16 = 0;
     let mut root: u16 = 0;
-    let mut v = 0;
-    while v < n {
+    for v in 0..n {
         let p = parents[v];
-        most = larger(most, p);
-        roots = roots + if_equal(p, v as u16, 1);
-        root = root | if_equal(p, v as u16, v as u16);
-        v += 1;
+        most = most.max(p);
+        roots += if_equal(p, v as u16, 1);
+        root |= if_equal(p, v as u16, v as u16);
     }
     if roots != 1 {
-        return n;
+        return None;
     }
     if n <= most as usize {
-        return n;
+        return None;
     }
-    root as usize
-}
-
-// The larger of two numbers.
-fn larger(a: u16, b: u16) -> u16
-    ensures { result ≡ cond (ltb a b) b a }
-{
-    if a < b {
-        return b;
-    }
-    a
+    Some(root as usize)
 }
 
 // x where two numbers are equal, and else 0.
@@ -58,14 +45,12 @@ pub(crate) fn next_root(parents: &[u16], first: usize) -> usize
     ensures { result ≡ next_root parents.now first }
 {
     let n = parents.len();
-    let mut v = first;
-    while v < n {
+    for v in first..n {
         if parents[v] as usize == v {
             return v;
         }
-        v += 1;
     }
-    v
+    n
 }
 
 // The lowest part after `root` that names itself; the number of parts where there is none, as usually.
@@ -86,12 +71,10 @@ fn some_root(parents: &[u16], first: usize) -> bool
 {
     let n = parents.len();
     let mut found = false;
-    let mut v = first;
-    while v < n {
+    for v in first..n {
         if parents[v] == v as u16 {
             found = true;
         }
-        v += 1;
     }
     found
 }

@@ -8,10 +8,9 @@ use native.Mathlib.Nat.{zero-add}
 use native.Mathlib.Omega.{arith}
 use borrow.Author.Tests.{eq-eqb}
 use lib.ListN.{length, get_or}
-use Rattle.tree.specs.declared.Outcome.{Outcome}
-use Rattle.tree.specs.declared.Outcome.TheVariants.{Accepted}
+use Rattle.std.proofs.Common.{Ok}
 use Rattle.tree.specs.Tree.{Tree}
-use Rattle.tree.specs.Verdict.{accepted, refused, verdict_of}
+use Rattle.tree.specs.Verdict.{accepted, refused, verdict_of, Outcome}
 use Rattle.tree.specs.Tests.{verdict, limit, sheet_tests, stale_table}
 use Rattle.tree.specs.Tests as tests
 use Rattle.tree.specs.Buffers.{work_cells, sheet_fits}
@@ -35,25 +34,25 @@ use Rattle.tables.specs.Lend.{build_verdict, BuildGives, LentGives}
 -- ---- checking
 
 -- tests 1 to 7 where the buffers fit
-accepts : (s : List ℕ) {r : Outcome} (buffer : ℕ) → verdict_of r ≡ verdict (sheet_tests s buffer) → buffer ≡ 0 → (r ≡ Accepted) ↔ (Tree s × (length s ≤ limit))
+accepts : (s : List ℕ) {r : Outcome} (buffer : ℕ) → verdict_of r ≡ verdict (sheet_tests s buffer) → buffer ≡ 0 → (r ≡ Ok tt) ↔ (Tree s × (length s ≤ limit))
 accepts s {r} buffer e fits =
     let same : verdict_of r ≡ verdict (sheet_tests s 0) = e ∙ ap (λ (b : ℕ). verdict (sheet_tests s b)) fits in
     (λ a. (accepted-exactly s).0 (sym same ∙ ap verdict_of a), λ t. accepted-case r (same ∙ (accepted-exactly s).1 t))
 
 -- "With buffers that fit, a sheet of 1 to 16,384 parts is accepted exactly if it is one rooted tree"
 pub check-accepts : (s before : List ℕ) {r : Outcome} {after : List ℕ} → CheckGives s before r after → length before ≡ work_cells (length s)
-    → (r ≡ Accepted) ↔ (Tree s × (length s ≤ limit))
+    → (r ≡ Ok tt) ↔ (Tree s × (length s ≤ limit))
 check-accepts s before g fits = accepts s _ g.outcome (fitting-none (sheet_fits (work_cells (length s)) (length before)) (eq-eqb _ _ fits, tt))
 
 -- ---- building
 
 module _ {t : Lent} {before label' tour' lift' order' after : List ℕ} {r : Outcome} (g : BuildGives t before r label' tour' lift' order' after) where
   -- the same of the call that builds
-  pub build-accepts : unfit_of t before 0 ≡ 0 → (r ≡ Accepted) ↔ (Tree t.parents × (length t.parents ≤ limit))
+  pub build-accepts : unfit_of t before 0 ≡ 0 → (r ≡ Ok tt) ↔ (Tree t.parents × (length t.parents ≤ limit))
   build-accepts fits = accepts t.parents _ g.answered.outcome fits
 
   -- "Every table cell is what Schieber-Vishkin, Bender/Farach-Colton or the doubling rule define", and the fourth table "holds the parts in preorder"
-  pub build-fills : r ≡ Accepted
+  pub build-fills : r ≡ Ok tt
       → (label' ≡ label_table t.parents) × (tour' ≡ tour_table t.parents) × (lift' ≡ lift_table t.parents) × (order' ≡ preorder t.parents)
   build-fills e =
       let v = build_verdict t before in
@@ -120,7 +119,7 @@ module _ (t : Lent) {before after : List ℕ} {r : Outcome} (g : LentGives t 0 b
       (omega arith, rw same at here, λ i h. rw zero-add at ((difference-same (end_to_end t) (mine t)).cell i (omega arith))))
 
   -- else they are accepted
-  pub compare-accepts : (r ≡ Accepted) ↔ ((i : ℕ) → i < length (mine t) → get_or (end_to_end t) i 0 ≡ get_or (mine t) i 0)
+  pub compare-accepts : (r ≡ Ok tt) ↔ ((i : ℕ) → i < length (mine t) → get_or (end_to_end t) i 0 ≡ get_or (mine t) i 0)
   compare-accepts =
       let d = first_difference (end_to_end t) (mine t) in (
         λ e i h. by_order (length (mine t)) d (λ l. rw zero-add at ((difference-all (end_to_end t) (mine t) l).cell i h))

@@ -1,8 +1,7 @@
 -- What the calls that are lent a sheet without tables give, from their inputs alone.
 -- Assumes nothing.
 use Rattle.std.specs.Prelude.{ℕ, ◌≡◌, List}
-use Rattle.tree.specs.declared.Outcome.{Outcome}
-use Rattle.tree.specs.Verdict.{accepted, refused, verdict_of}
+use Rattle.tree.specs.Verdict.{accepted, refused, verdict_of, Outcome}
 use Rattle.tree.specs.Tests.{verdict, sheet_tests}
 use Rattle.tree.specs.Buffers.{work_after}
 use Rattle.tree.specs.BottomUp.{Edges}

@@ -1,8 +1,7 @@
 -- What the calls that are lent the tables give, from their inputs alone: the one that fills them, and the one that compares them.
 -- Assumes nothing.
 use Rattle.std.specs.Prelude.{ℕ, ◌≡◌, List}
-use Rattle.tree.specs.declared.Outcome.{Outcome}
-use Rattle.tree.specs.Verdict.{Verdict}
+use Rattle.tree.specs.Verdict.{Verdict, Outcome}
 use Rattle.tree.specs.Tests.{verdict, sheet_tests, lent_tests}
 use Rattle.tree.specs.Buffers.{filled}
 use Rattle.tree.specs.Labels.{label_table}

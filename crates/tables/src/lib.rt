@@ -17,11 +17,11 @@ ghost use Rattle.tree.specs.Ready.{Ready, NumbersIn};
 ghost use Rattle.tables.specs.Check.{Tested, SheetGives, CheckGives, OrderGives};
 ghost use Rattle.tables.specs.Lend.{BuildGives, LentGives};
 
-use tree::{Outcome, Refusal};
+use tree::Refusal;
 
 // Checks the sheet `parents`: accepted if it is one rooted tree of at most 16,384 parts, else refused with document 01's number
 // and place. `work` has four cells for each part. It is all zero afterwards, or as it was after refusals 1 to 3.
-pub fn check(parents: &[u16], work: &mut [u16]) -> Outcome
+pub fn check(parents: &[u16], work: &mut [u16]) -> Result<(), Refusal>
     ensures { CheckGives parents.now work.old result work.new }
 {
     admit_sheet(parents, 0, work)
@@ -29,7 +29,7 @@ pub fn check(parents: &[u16], work: &mut [u16]) -> Outcome
 
 // The same for every call that is lent no tables: tests 1 to 7, of a call whose lowest further buffer that does not fit is `further`, or 0. It is for the calls
 // of other crates to begin with, and no call of a user's: the further buffers are not lent to it, so that number is taken as it is given.
-pub fn admit_sheet(parents: &[u16], further: usize, work: &mut [u16]) -> Outcome
+pub fn admit_sheet(parents: &[u16], further: usize, work: &mut [u16]) -> Result<(), Refusal>
     ensures { SheetGives parents.now further work.old result work.new }
 {
     let unfit = fits::lower(fits::work_unfit(4 * parents.len(), work.len()), further);
@@ -38,19 +38,15 @@ pub fn admit_sheet(parents: &[u16], further: usize, work: &mut [u16]) -> Outcome
 
 // The same for a call that sums over what parts carry: where it is accepted, the first n − 1 cells of `work` are a bottom-up order of the sheet afterwards and
 // its third n the entries beside it, and the call that goes by them clears them. Taking leaves off for that order is the loop test.
-pub fn admit_bottom_up(parents: &[u16], further: usize, work: &mut [u16]) -> Outcome
+pub fn admit_bottom_up(parents: &[u16], further: usize, work: &mut [u16]) -> Result<(), Refusal>
     ensures { OrderGives parents.now further work.old result work.new }
 {
     let unfit = fits::lower(fits::work_unfit(4 * parents.len(), work.len()), further);
-    let sizes = test_sizes(parents.len(), unfit);
-    let Outcome::Accepted = sizes else {
-        return sizes;
-    };
+    test_sizes(parents.len(), unfit)?;
     let r = rooted::test_tree(parents, 0, true, work);
-    let Outcome::Accepted = r else {
+    if r.is_err() {
         cells::clear(work);
-        return r;
-    };
+    }
     r
 }
 
@@ -63,7 +59,7 @@ pub fn build(
     lift: &mut [u16],
     order: &mut [u16],
     work: &mut [u16],
-) -> Outcome
+) -> Result<(), Refusal>
     ensures { BuildGives (lent_by parents.now label.old tour.old lift.old order.old)
         work.old result label.new tour.new lift.new order.new work.new }
 {
@@ -77,12 +73,9 @@ pub fn build(
         4 * n,
         work.len(),
     );
-    let r = admit(parents, unfit, work);
-    let Outcome::Accepted = r else {
-        return r;
-    };
+    admit(parents, unfit, work)?;
     fill::tables(parents, label, tour, lift, order, work);
-    r
+    Ok(())
 }
 
 // Compares the four tables with the sheet `parents`: tests 1 to 8. The tables are stale at the first cell that is not the sheet's own, counted
@@ -94,7 +87,7 @@ pub fn compare(
     lift: &[u16],
     order: &[u16],
     work: &mut [u16],
-) -> Outcome
+) -> Result<(), Refusal>
     ensures { LentGives (lent_by parents.now label.now tour.now lift.now order.now)
         0 work.old result work.new }
 {
@@ -111,7 +104,7 @@ pub fn admit_lent(
     order: &[u16],
     further: usize,
     work: &mut [u16],
-) -> Outcome
+) -> Result<(), Refusal>
     ensures { LentGives (lent_by parents.now label.now tour.now lift.now order.now)
         further work.old result work.new }
 {
@@ -126,10 +119,7 @@ pub fn admit_lent(
         work.len(),
     );
     let unfit = fits::lower(own, further);
-    let r = admit(parents, unfit, work);
-    let Outcome::Accepted = r else {
-        return r;
-    };
+    admit(parents, unfit, work)?;
     let found = stale::tables(parents, label, tour, lift, order, work);
     cells::clear(work);
     found
@@ -152,14 +142,11 @@ pub fn numbers(parents: &[u16], work: &mut [u16])
 }
 
 // Tests 1 to 7, of a call whose lowest buffer that does not fit is `unfit`, or 0.
-fn admit(parents: &[u16], unfit: usize, work: &mut [u16]) -> Outcome
+fn admit(parents: &[u16], unfit: usize, work: &mut [u16]) -> Result<(), Refusal>
     requires { 0 < length parents.now → length parents.now ≤ limit → unfit ≡ 0 → length work.old ≡ work_cells (length parents.now) }
     ensures { Tested parents.now unfit work.old result work.new }
 {
-    let sizes = test_sizes(parents.len(), unfit);
-    let Outcome::Accepted = sizes else {
-        return sizes;
-    };
+    test_sizes(parents.len(), unfit)?;
     cells::clear(work);
     let r = rooted::test_tree(parents, 0, false, work);
     cells::clear(work);
@@ -167,17 +154,17 @@ fn admit(parents: &[u16], unfit: usize, work: &mut [u16]) -> Outcome
 }
 
 // Tests 1 to 3, of a sheet of n parts and a call whose lowest buffer that does not fit is `unfit`, or 0.
-fn test_sizes(n: usize, unfit: usize) -> Outcome
+fn test_sizes(n: usize, unfit: usize) -> Result<(), Refusal>
     ensures { verdict_of result ≡ verdict (size_tests n unfit) }
 {
     if n == 0 {
-        return Outcome::Refused(Refusal::Empty);
+        return Err(Refusal::Empty);
     }
     if fits::LIMIT < n {
-        return Outcome::Refused(Refusal::TooLarge);
+        return Err(Refusal::TooLarge);
     }
     if unfit != 0 {
-        return Outcome::Refused(Refusal::WrongLength(unfit));
+        return Err(Refusal::WrongLength(unfit));
     }
-    Outcome::Accepted
+    Ok(())
 }

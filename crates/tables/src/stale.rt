@@ -16,7 +16,7 @@ ghost use Rattle.tree.specs.Tests.{verdict, stale_table};
 ghost use Rattle.tree.specs.Tables.{lent_by};
 ghost use Rattle.tables.specs.Sections.{Fits};
 
-use tree::{Outcome, Refusal};
+use tree::Refusal;
 
 // Test 8: the four tables end to end.
 pub(crate) fn tables(
@@ -26,28 +26,28 @@ pub(crate) fn tables(
     lift: &[u16],
     order: &[u16],
     work: &mut [u16],
-) -> Outcome
+) -> Result<(), Refusal>
     requires { Fits (lent_by parents.now label.now tour.now lift.now order.now) work.old }
     ensures { verdict_of result ≡ verdict
         (stale_table (lent_by parents.now label.now tour.now lift.now order.now) ∷ []) }
 {
     let at = self::label(parents, label, work);
     if at < label.len() {
-        return Outcome::Refused(Refusal::StaleTable(at));
+        return Err(Refusal::StaleTable(at));
     }
     let at = self::tour(parents, label, tour, work);
     if at < tour.len() {
-        return Outcome::Refused(Refusal::StaleTable(label.len() + at));
+        return Err(Refusal::StaleTable(label.len() + at));
     }
     let at = self::lift(parents, lift, work);
     if at < lift.len() {
-        return Outcome::Refused(Refusal::StaleTable(label.len() + tour.len() + at));
+        return Err(Refusal::StaleTable(label.len() + tour.len() + at));
     }
     let at = self::order(parents, label, order, work);
     if at < order.len() {
-        return Outcome::Refused(Refusal::StaleTable(label.len() + tour.len() + lift.len() + at));
+        return Err(Refusal::StaleTable(label.len() + tour.len() + lift.len() + at));
     }
-    Outcome::Accepted
+    Ok(())
 }
 
 // The first cell of a label table that is not the sheet's own; the table's length where there is none.

@@ -1,13 +1,15 @@
 -- The first test that fails: a list of tests accepts exactly if each passes, and else gives the number and place of the first that does not.
 -- Assumes nothing.
 use Prim.Native.Nat.{ℕ}
-use mathlib.Core.Path.{◌≡◌, refl, sym, ◌∙◌}
-use mathlib.Core.Bool.{true, false}
+use mathlib.Core.Path.{◌≡◌, refl, sym, ap, ◌∙◌}
+use mathlib.Core.Bool.{true, false, true≢false}
 use mathlib.Core.List.{List, [], ◌∷◌, ◌++◌}
 use native.Mathlib.Omega.{arith}
-use Rattle.tree.specs.declared.Outcome.{Outcome}
-use Rattle.tree.specs.declared.Outcome.TheVariants.{Accepted, Refused}
-use Rattle.tree.specs.Verdict.{Verdict, accepted, refused, verdict_of}
+use Rattle.std.specs.Result.{IsErrAnd, is_err}
+use Rattle.std.proofs.Common.{Result, Ok, Err}
+use Rattle.std.proofs.lemmas.Result.{err_from_is_err_and}
+use Rattle.tree.specs.declared.Refusal.{Refusal}
+use Rattle.tree.specs.Verdict.{Verdict, accepted, refused, Outcome, verdict_of}
 use Rattle.tree.specs.Tests.{Test, test_number, test_place, verdict}
 use Rattle.tree.proofs.Scans.{by-test}
 
@@ -80,6 +82,19 @@ accepted-both (t ∷ before) after e =
     (verdict-pass t before passes ∙ first, last)
 
 -- an outcome whose verdict accepts is the case that says so
-pub accepted-case : (r : Outcome) → verdict_of r ≡ accepted → r ≡ Accepted
-accepted-case Accepted e = refl
-accepted-case (Refused why) e = absurd (not-both e refl)
+pub accepted-case : (r : Outcome) → verdict_of r ≡ accepted → r ≡ Ok tt
+accepted-case (Ok tt) e = refl
+accepted-case (Err why) e = absurd (not-both e refl)
+
+-- a refusal that `?` hands on is the one that came
+pub handed_on : {A : Type 0} {why : Refusal} (r : Result A Refusal) → IsErrAnd r (λ given. given ≡ why) → r ≡ Err why
+handed_on r e = let (given, is, same) = err_from_is_err_and r e in is ∙ ap Err same
+
+-- an answer that is an error has a reason, and one that is none accepts
+pub error_of : {A : Type 0} (r : Result A Refusal) → is_err r ≡ true → (why : Refusal) × (r ≡ Err why)
+error_of (Ok given) e = absurd (true≢false (sym e))
+error_of (Err why) e = (why, refl)
+
+pub no_error : {A : Type 0} (r : Result A Refusal) → is_err r ≡ false → verdict_of r ≡ accepted
+no_error (Ok given) e = refl
+no_error (Err why) e = absurd (true≢false e)

@@ -2,12 +2,10 @@
 -- code holds it, and last cases of document 02's requests on the same seven parts, worked out by hand. A case is a list of numbers that the
 -- definitions give, and the list that is stated; `proofs/Known.antt` has the one proof that they agree.
 -- Assumes nothing.
-use Rattle.std.specs.Prelude.{ℕ, suc, List, [], ◌∷◌, ◌++◌, length}
+use Rattle.std.specs.Prelude.{ℕ, suc, List, [], ◌∷◌, ◌++◌, length, Ok, Err}
 use Rattle.tree.specs.declared.Refusal.TheVariants.{NoRoot, SecondRoot, Cycle}
-use Rattle.tree.specs.declared.Outcome.{Outcome}
-use Rattle.tree.specs.declared.Outcome.TheVariants.{Accepted, Refused}
 use Rattle.tree.specs.Scan.{tabulate}
-use Rattle.tree.specs.Verdict.{Verdict, accepted, refused, verdict_of}
+use Rattle.tree.specs.Verdict.{Verdict, accepted, refused, Outcome, verdict_of}
 use Rattle.tree.specs.Tests.{verdict, sheet_tests, node_out_of_range, no_common_ancestor}
 use Rattle.tree.specs.Preorder.{preorder_number, size, subtree, tour}
 use Rattle.tree.specs.Buffers.{no_cell, label_cells, tour_cells, lift_cells, order_cells}
@@ -91,13 +89,13 @@ cases =
     -- "pair 5 6 gives 5"
     ∷ pair_gives 5 6 5 5 6
     -- "sheet 0 is accepted, label cells 1 1 0 1 1 0. Sheet 1 1 is accepted"
-    ∷ checked (0 ∷ []) Accepted 0 0
+    ∷ checked (0 ∷ []) (Ok tt) 0 0
     ∷ record { given = label_table (0 ∷ []); stated = 1 ∷ 1 ∷ 0 ∷ 1 ∷ 1 ∷ 0 ∷ [] }
-    ∷ checked (1 ∷ 1 ∷ []) Accepted 0 0
+    ∷ checked (1 ∷ 1 ∷ []) (Ok tt) 0 0
     -- "1 0 is refused 5", "0 1 is refused 6 at 1", "0 2 1 is refused 7 at 1"
-    ∷ checked (1 ∷ 0 ∷ []) (Refused NoRoot) 5 0
-    ∷ checked (0 ∷ 1 ∷ []) (Refused (SecondRoot 1)) 6 1
-    ∷ checked (0 ∷ 2 ∷ 1 ∷ []) (Refused (Cycle 1)) 7 1
+    ∷ checked (1 ∷ 0 ∷ []) (Err NoRoot) 5 0
+    ∷ checked (0 ∷ 1 ∷ []) (Err (SecondRoot 1)) 6 1
+    ∷ checked (0 ∷ 2 ∷ 1 ∷ []) (Err (Cycle 1)) 7 1
     -- row 11, "listed parts have no common carrier", at 0: of two parts that both name themselves
     ∷ record { given = shown (verdict (no_common_ancestor (0 ∷ 1 ∷ []) (0 ∷ 1 ∷ []) ∷ [])); stated = 11 ∷ 0 ∷ [] }
     -- 2026-01: the parts in preorder, 7 cells; what part 1, part 2, a part that carries no other, and the root carry

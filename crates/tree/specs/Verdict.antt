@@ -1,14 +1,9 @@
--- What a call answers: the operator's number and place. One definition for each enum of `src/` gives what document 01 says of
--- each of its cases. Assumes nothing.
-use Rattle.std.specs.Prelude.{ℕ}
+-- What a call answers: the operator's number and place, as document 01 says of each of a refusal's cases; and what an accepted call gives besides.
+-- Assumes nothing.
+use Rattle.std.specs.Prelude.{ℕ, Result, Ok, Err}
 use Rattle.tree.specs.declared.Refusal.{Refusal}
 use Rattle.tree.specs.declared.Refusal.TheVariants.{Empty, TooLarge, WrongLength, ParentOutOfRange, NoRoot, SecondRoot, Cycle, StaleTable, NothingListed, NodeOutOfRange, NoCommonAncestor, MalformedLine}
-use Rattle.tree.specs.declared.Outcome.{Outcome}
-use Rattle.tree.specs.declared.Outcome.TheVariants.{Accepted, Refused}
-use Rattle.tree.specs.declared.Traced.{Traced}
-use Rattle.tree.specs.declared.Traced.TheVariants as traced
 use Rattle.tree.specs.declared.Located.{Located}
-use Rattle.tree.specs.declared.Located.TheVariants as located
 
 -- "A refusal carries a number and a place"
 pub data Verdict : Type 0 where
@@ -36,39 +31,33 @@ number_of r = (numbered r).0
 abbrev pub place_of : Refusal → ℕ
 place_of r = (numbered r).1
 
+-- what a call answers that gives nothing besides: `Ok`, or `Err` of why it is refused
+abbrev pub Outcome : Type 0
+Outcome = Result (Unit {0}) Refusal
+
 -- a call that was accepted, or the number and the place of its refusal
-abbrev pub verdict_of : Outcome → Verdict
-verdict_of Accepted = accepted
-verdict_of (Refused r) = refused (number_of r) (place_of r)
+abbrev pub verdict_of : {A : Type 0} → Result A Refusal → Verdict
+verdict_of (Ok given) = accepted
+verdict_of (Err why) = refused (number_of why) (place_of why)
 
--- a trail's answer as an outcome
-abbrev pub told : Traced → Outcome
-told (traced.Lifts count) = Accepted
-told (traced.Refused r) = Refused r
-
--- the count of its lifts; a refusal counts none
-abbrev pub lifts_of : Traced → ℕ
-lifts_of (traced.Lifts count) = count
-lifts_of (traced.Refused r) = 0
+-- the count of a trail's lifts; a refusal counts none
+abbrev pub lifts_of : Result ℕ Refusal → ℕ
+lifts_of (Ok count) = count
+lifts_of (Err why) = 0
 
 -- both: a pair that was traced, with the count of its lifts, or the number and the place of its refusal, which counts none
-abbrev pub traced_of : Traced → Verdict × ℕ
-traced_of r = (verdict_of (told r), lifts_of r)
+abbrev pub traced_of : Result ℕ Refusal → Verdict × ℕ
+traced_of r = (verdict_of r, lifts_of r)
 
--- the answer of a call that locates a subtree as an outcome
-abbrev pub located_as : Located → Outcome
-located_as (located.At start count) = Accepted
-located_as (located.Refused r) = Refused r
+-- where a subtree begins, and how many cells it has; a refusal has none, from the table's first on
+abbrev pub start_of : Result Located Refusal → ℕ
+start_of (Ok found) = found.start
+start_of (Err why) = 0
 
--- where the subtree begins, and how many cells it has; a refusal has none, from the table's first on
-abbrev pub start_of : Located → ℕ
-start_of (located.At start count) = start
-start_of (located.Refused r) = 0
-
-abbrev pub count_of : Located → ℕ
-count_of (located.At start count) = count
-count_of (located.Refused r) = 0
+abbrev pub count_of : Result Located Refusal → ℕ
+count_of (Ok found) = found.count
+count_of (Err why) = 0
 
 -- all of it: a subtree that was located, with its start and its count, or the number and the place of the refusal
-abbrev pub located_of : Located → Verdict × ℕ × ℕ
-located_of r = (verdict_of (located_as r), start_of r, count_of r)
+abbrev pub located_of : Result Located Refusal → Verdict × ℕ × ℕ
+located_of r = (verdict_of r, start_of r, count_of r)

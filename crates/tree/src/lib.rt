@@ -6,7 +6,8 @@ ghost use Rattle.std.specs.Prelude.{◌≡◌};
 ghost use Rattle.tree.specs.Verdict.{number_of, place_of};
 
 // Why a call is refused: a case for each row of document 01's table of numbers, in its order. A case that can arise at
-// more than one place holds the place, which is as wide as a length.
+// more than one place holds the place, which is as wide as a length. It is the `Err` of each call; one that is accepted gives
+// `Ok` of the number that it counts or the place that it finds, or of nothing.
 #[derive(Clone, Copy)]
 pub enum Refusal {
     // 1 "bare"
@@ -35,59 +36,38 @@ pub enum Refusal {
     MalformedLine(usize),
 }
 
-// What a call answers that gives no number of its own.
+// Where the subtree of a part stands: the cell of the order table at which it begins, and the count of its cells.
 #[derive(Clone, Copy)]
-pub enum Outcome {
-    Accepted,
-    Refused(Refusal),
+pub struct Located {
+    pub start: usize,
+    pub count: usize,
 }
 
-// What a call answers that traces a pair: the count of its lifts.
-#[derive(Clone, Copy)]
-pub enum Traced {
-    Lifts(usize),
-    Refused(Refusal),
-}
-
-// What a call answers that locates the subtree of a part: the cell of the order table at which it begins, and the count of its cells.
-#[derive(Clone, Copy)]
-pub enum Located {
-    At(usize, usize),
-    Refused(Refusal),
-}
-
-// A refusal as the operator sees it.
+// A refusal as the operator sees it: its number and its place, which is 0 where there is only one.
 #[derive(Clone, Copy)]
 pub struct Numbered {
     pub number: u16,
     pub place: usize,
 }
 
-impl Refusal {
-    // The operator's number and place; the place is 0 where there is only one.
-    pub fn number_and_place(self) -> Numbered
-        ensures { (result.number ≡ number_of self) × (result.place ≡ place_of self) }
-    {
-        match self {
-            Refusal::Empty => at(1, 0),
-            Refusal::TooLarge => at(2, 0),
-            Refusal::WrongLength(buffer) => at(3, buffer),
-            Refusal::ParentOutOfRange(part) => at(4, part),
-            Refusal::NoRoot => at(5, 0),
-            Refusal::SecondRoot(part) => at(6, part),
-            Refusal::Cycle(part) => at(7, part),
-            Refusal::StaleTable(cell) => at(8, cell),
-            Refusal::NothingListed => at(9, 0),
-            Refusal::NodeOutOfRange(position) => at(10, position),
-            Refusal::NoCommonAncestor => at(11, 0),
-            Refusal::MalformedLine(line) => at(12, line),
-        }
-    }
-}
+impl From<Refusal> for Numbered {
+    ghost from_gives = { λ why r. (r.number ≡ number_of why) × (r.place ≡ place_of why) };
 
-// A number at a place.
-fn at(number: u16, place: usize) -> Numbered
-    ensures { (result.number ≡ number) × (result.place ≡ place) }
-{
-    Numbered { number, place }
+    fn from(why: Refusal) -> Numbered {
+        let (number, place) = match why {
+            Refusal::Empty => (1, 0),
+            Refusal::TooLarge => (2, 0),
+            Refusal::WrongLength(buffer) => (3, buffer),
+            Refusal::ParentOutOfRange(part) => (4, part),
+            Refusal::NoRoot => (5, 0),
+            Refusal::SecondRoot(part) => (6, part),
+            Refusal::Cycle(part) => (7, part),
+            Refusal::StaleTable(cell) => (8, cell),
+            Refusal::NothingListed => (9, 0),
+            Refusal::NodeOutOfRange(position) => (10, position),
+            Refusal::NoCommonAncestor => (11, 0),
+            Refusal::MalformedLine(line) => (12, line),
+        };
+        Numbered { number, place }
+    }
 }

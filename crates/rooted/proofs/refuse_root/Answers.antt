@@ -57,30 +57,18 @@ pub returns-then-off-n : goal.returns-then-off-n
 returns-then-off-n c =
     let shift = c.args.shift in
     let e = off (goal.at.returns-then-off-n c).After-first_from-off in
-    record {
-      why = ParentOutOfRange (shift + c.first_from-off.result);
-      is = refl;
-      refusal = refused-out-of-range shift _ (rw e at c.if-off-n.true) ∙ ap (λ k. refused 4 (shift + k)) (sym e);
-    }
+    refused-out-of-range shift _ (rw e at c.if-off-n.true) ∙ ap (λ k. refused 4 (shift + k)) (sym e)
 
 pub returns-then-n-root : goal.returns-then-n-root
 returns-then-n-root c =
-    record {
-      why = NoRoot;
-      is = refl;
-      refusal = refused-no_root _ _ (entries (goal.at.returns-then-n-root c).Else-off-n)
-          (rw c.root-root.ensures at c.if-n-root.true);
-    }
+    refused-no_root _ _ (entries (goal.at.returns-then-n-root c).Else-off-n)
+      (rw c.root-root.ensures at c.if-n-root.true)
 
 pub returns : goal.returns
 returns c =
     let shift = c.args.shift in
-    record {
-      why = SecondRoot (shift + c.second_root-second.result);
-      is = refl;
-      refusal = refused-second_root shift _ (entries (goal.at.returns c).Else-off-n) (below (goal.at.returns c).Else-n-root) (some c)
-          ∙ ap (λ k. refused 6 (shift + k)) (sym (second c));
-    }
+    refused-second_root shift _ (entries (goal.at.returns c).Else-off-n) (below (goal.at.returns c).Else-n-root) (some c)
+      ∙ ap (λ k. refused 6 (shift + k)) (sym (second c))
 
 pub overflow_add-result-2 : goal.overflow_add-result-2
 overflow_add-result-2 c =

@@ -2,6 +2,7 @@
 -- Assumes nothing.
 use Prim.Native.Nat.{ℕ}
 use mathlib.Core.Path.{refl}
+use Rattle.tree.proofs.Verdicts.{handed_on}
 use Rattle.tables.proofs.Lending.{found-tested, found-work, tested-fits, build-refused, build-accepted}
 use Rattle.tree.specs.Tables.{Lent, lent_by}
 use Rattle.tree.specs.Lending.{unfit_of}
@@ -16,23 +17,23 @@ lent c = let a = c.args in lent_by a.parents.now a.label.now a.tour.now a.lift.n
 abbrev unfit : Start → ℕ
 unfit s = unfit_of (lent s) s.args.work.now 0
 
-pub admit-r-requires : goal.admit-r-requires
-admit-r-requires c =
-    found-work (lent (goal.at.admit-r-requires c).Start) c.args.work.now 0 _ c.first_unfit-unfit.ensures
+pub admit-requires : goal.admit-requires
+admit-requires c =
+    found-work (lent (goal.at.admit-requires c).Start) c.args.work.now 0 _ c.first_unfit-unfit.ensures
 
-pub returns-in_default : goal.returns-in_default
-returns-in_default c =
-    build-refused (lent (goal.at.returns-in_default c).Start) _
-    (found-tested c.args.parents.now (unfit (goal.at.returns-in_default c).Start) _ c.first_unfit-unfit.ensures c.admit-r.ensures) c.in_default.is
+pub returns-in_err-admit : goal.returns-in_err-admit
+returns-in_err-admit c =
+    let tested = found-tested c.args.parents.now (unfit (goal.at.returns-in_err-admit c).Start) _ c.first_unfit-unfit.ensures c.admit.ensures in
+    build-refused (lent (goal.at.returns-in_err-admit c).Start) _ tested c.in_err-admit.was (handed_on c.from_residual.result c.from_residual.ensures.1)
 
 pub tables-requires : goal.tables-requires
 tables-requires c =
-    tested-fits _ _ _ 0 _ c.first_unfit-unfit.ensures c.admit-r.ensures c.in-Accepted.is c.admit-r.auto.work
+    tested-fits _ _ _ 0 _ c.first_unfit-unfit.ensures c.admit.ensures c.in_ok-admit.was c.admit.auto.work
 
 pub returns : goal.returns
 returns c =
-    let yes = c.in-Accepted.is in
-    let fits = tested-fits (lent (goal.at.returns c).Start) c.args.work.now c.args.work.now 0 _ c.first_unfit-unfit.ensures c.admit-r.ensures yes refl in
+    let yes = c.in_ok-admit.was in
+    let fits = tested-fits (lent (goal.at.returns c).Start) c.args.work.now c.args.work.now 0 _ c.first_unfit-unfit.ensures c.admit.ensures yes refl in
     build-accepted (lent (goal.at.returns c).Start) _
-    (found-tested c.args.parents.now (unfit (goal.at.returns c).Start) _ c.first_unfit-unfit.ensures c.admit-r.ensures) yes fits.ready.room
+    (found-tested c.args.parents.now (unfit (goal.at.returns c).Start) _ c.first_unfit-unfit.ensures c.admit.ensures) yes refl fits.ready.room
     c.tables.ensures

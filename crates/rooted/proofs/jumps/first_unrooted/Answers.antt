@@ -4,6 +4,8 @@ use native.Mathlib.Nat.{not-suc-le-zero}
 use native.Mathlib.Omega.{arith}
 use borrow.Author.Count.{below_more}
 use borrow.Author.Rules.{rules}
+use mathlib.Core.Path.{◌≡◌}
+use lib.ListN.{length}
 use Rattle.tree.proofs.Places.{cycle-place}
 use Rattle.rooted.proofs.Jumping.{linked-root, linked-elsewhere}
 use Rattle.rooted.proofs.jumps.first_unrooted.Goals as goal
@@ -25,5 +27,6 @@ loop-v-preserved c =
 
 pub returns : goal.returns
 returns c =
-    let l = c.loop-v.invariant in
-    cycle-place _ _ l.0 l.1 (λ h. absurd (omega arith))
+    let l = c.loop-v in
+    let e : l.v ≡ length c.args.parents.now = omega arith in
+    rw e at (cycle-place _ _ l.invariant.0 l.invariant.1 (λ h. absurd (omega arith)))

@@ -10,6 +10,3 @@ use Rattle.rooted.proofs.jumps.first_unrooted.Given as goal
 abbrev pub invariant-loop-v : goal.invariant-loop-v
 invariant-loop-v l =
     (l.v ≤ length l.parents) × ((j : ℕ) → j < l.v → is_root l.parents (climb l.parents (length l.parents) j) ≡ true)
-
-abbrev pub decreases-loop-v : goal.decreases-loop-v
-decreases-loop-v l = length l.parents - l.v

@@ -5,6 +5,3 @@ use Rattle.rooted.proofs.jumps.jump_falling.Given as goal
 
 abbrev pub invariant-loop-v : goal.invariant-loop-v
 invariant-loop-v l = Jumping l.parents l.initial.work l.work l.root 0 l.v l.bits
-
-abbrev pub decreases-loop-v : goal.decreases-loop-v
-decreases-loop-v l = l.v

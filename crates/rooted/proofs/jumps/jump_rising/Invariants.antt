@@ -7,6 +7,3 @@ use Rattle.rooted.proofs.jumps.jump_rising.Given as goal
 
 abbrev pub invariant-loop-v : goal.invariant-loop-v
 invariant-loop-v l = Jumping l.parents l.initial.work l.work l.root l.v (length l.parents) l.bits
-
-abbrev pub decreases-loop-v : goal.decreases-loop-v
-decreases-loop-v l = length l.parents - l.v

@@ -13,29 +13,23 @@ loop-v-init c = (surveyed-start _, lit< tt)
 pub loop-v-preserved : goal.loop-v-preserved
 loop-v-preserved c =
     let l = c.loop-v in
-    let larger = c.larger-most in (
+    let larger = c.max-most in (
       surveyed-step l.invariant.0 c.loop-v-test.true larger.ensures
           c.if_equal-roots.ensures.0 c.if_equal-root.ensures.0,
       let ok = larger.type_inv in omega arith,
     )
 
 pub returns-then-roots-ne1 : goal.returns-then-roots-ne1
-returns-then-roots-ne1 c = (
-  λ h. absurd (omega arith),
-  λ _ q one. c.if-roots-ne1.true (surveyed-one c.loop-v.invariant.0 c.loop-v-test.false one).0,
-)
+returns-then-roots-ne1 c = λ q one. c.if-roots-ne1.true (surveyed-one c.loop-v.invariant.0 c.loop-v-test.false one).0
 
 pub returns-then-n-most : goal.returns-then-n-most
-returns-then-n-most c = (
-  λ h. absurd (omega arith),
-  λ _ q one. let top = (surveyed-one c.loop-v.invariant.0 c.loop-v-test.false one).1 in absurd (omega (arith, c.if-n-most.true)),
-)
+returns-then-n-most c = λ q one.
+    let top = (surveyed-one c.loop-v.invariant.0 c.loop-v-test.false one).1 in
+    absurd (omega (arith, c.if-n-most.true))
 
 pub returns : goal.returns
 returns c =
-    let l = c.loop-v.invariant.0 in
-    let one = surveyed-end l c.loop-v-test.false c.if-roots-ne1.false c.if-n-most.false in
-    (λ _. one, λ h q _. let part = one.part in absurd (omega arith))
+    surveyed-end c.loop-v.invariant.0 c.loop-v-test.false c.if-roots-ne1.false c.if-n-most.false
 
 pub overflow_add-roots : goal.overflow_add-roots
 overflow_add-roots c =

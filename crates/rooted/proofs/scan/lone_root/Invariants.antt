@@ -7,6 +7,3 @@ use Rattle.rooted.proofs.scan.lone_root.Given as goal
 
 abbrev pub invariant-loop-v : goal.invariant-loop-v
 invariant-loop-v l = Surveyed l.parents l.v l.most l.roots l.root × (l.most < 65536)
-
-abbrev pub decreases-loop-v : goal.decreases-loop-v
-decreases-loop-v l = length l.parents - l.v

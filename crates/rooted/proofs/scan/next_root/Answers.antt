@@ -4,6 +4,8 @@ use Prim.Native.Nat.{◌≤◌}
 use native.Mathlib.Omega.{arith}
 use borrow.Author.Count.{below_more}
 use borrow.Author.Rules.{rules}
+use mathlib.Core.Path.{◌≡◌}
+use lib.ListN.{length}
 use Rattle.tree.proofs.Places.{next_root-place}
 use Rattle.rooted.proofs.scan.next_root.Goals as goal
 
@@ -22,5 +24,6 @@ loop-v-preserved c =
 
 pub returns : goal.returns
 returns c =
-    let l = c.loop-v.invariant in
-    next_root-place _ _ _ c.requires l.0 l.1 l.2 (λ h. absurd (omega arith))
+    let l = c.loop-v in
+    let e : l.v ≡ length c.args.parents.now = omega arith in
+    rw e at (next_root-place _ _ _ c.requires l.invariant.0 l.invariant.1 l.invariant.2 (λ h. absurd (omega arith)))

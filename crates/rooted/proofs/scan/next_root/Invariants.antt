@@ -7,6 +7,3 @@ use Rattle.rooted.proofs.scan.next_root.Given as goal
 
 abbrev pub invariant-loop-v : goal.invariant-loop-v
 invariant-loop-v l = (l.first ≤ l.v) × (l.v ≤ length l.parents) × ((j : ℕ) → l.first ≤ j → j < l.v → get_or l.parents j 0 ≢ j)
-
-abbrev pub decreases-loop-v : goal.decreases-loop-v
-decreases-loop-v l = length l.parents - l.v

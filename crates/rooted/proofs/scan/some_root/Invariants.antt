@@ -9,6 +9,3 @@ use Rattle.rooted.proofs.scan.some_root.Given as goal
 
 abbrev pub invariant-loop-v : goal.invariant-loop-v
 invariant-loop-v l = (l.found ≡ false → (j : ℕ) → j < l.v → l.first ≤ j → get_or l.parents j 0 ≢ j)
-
-abbrev pub decreases-loop-v : goal.decreases-loop-v
-decreases-loop-v l = length l.parents - l.v
