@@ -4,9 +4,8 @@ use Prim.Native.Nat.{ℕ}
 use mathlib.Core.Path.{◌≡◌, subst}
 use mathlib.Core.List.{List}
 use Rattle.tree.specs.declared.Refusal.{Refusal}
-use Rattle.tree.specs.declared.Outcome.{Outcome}
-use Rattle.tree.specs.declared.Outcome.TheVariants.{Accepted, Refused}
-use Rattle.tree.specs.Verdict.{accepted, verdict_of}
+use Rattle.std.proofs.Common.{Ok, Err}
+use Rattle.tree.specs.Verdict.{accepted, Outcome, verdict_of}
 use Rattle.tree.specs.Tests.{verdict, lent_tests, question_tests}
 use Rattle.tree.specs.Tables.{Lent}
 use Rattle.tree.specs.Nodes.{Listed}
@@ -22,16 +21,16 @@ use Rattle.routes.specs.Answers.{Admitted, Asked}
 
 module _ (t : Lent) (work question : List ℕ) (further : ℕ) {r : Outcome} {after : List ℕ} (given : LentGives t further work r after) where
   -- a sheet or tables that are refused are refused whatever is asked
-  pub admit-refused : {why : Refusal} → r ≡ Refused why → Admitted t work question further r after
+  pub admit-refused : {why : Refusal} {q : Outcome} → r ≡ Err why → q ≡ Err why → Admitted t work question further q after
   admit-refused = stage-refused given (question_tests t.parents 0 question)
 
   -- where they are accepted, the question decides
-  pub admit-asked : {asked : Outcome} → r ≡ Accepted → verdict_of asked ≡ verdict (question_tests t.parents 0 question)
+  pub admit-asked : {asked : Outcome} → r ≡ Ok tt → verdict_of asked ≡ verdict (question_tests t.parents 0 question)
       → Admitted t work question further asked after
   admit-asked e answered = stage-on given (question_tests t.parents 0 question) e answered (question-later t.parents 0 question) (stage-clear given e)
 
   -- and the tables are the sheet's own
-  pub admit-owned : r ≡ Accepted → Owned t further
+  pub admit-owned : r ≡ Ok tt → Owned t further
   admit-owned e = lent-owned t work further (stage-yes given e)
 
 -- what was found of the lengths is what is there
@@ -55,5 +54,5 @@ answerable t work question further e =
 
 -- the same of a call that was admitted
 pub admitted-answerable : (a : Asked) (further : ℕ) {r : Outcome} {after : List ℕ} → Admitted a.lent a.work a.question further r after
-    → r ≡ Accepted → Answerable a.lent a.question further
+    → r ≡ Ok tt → Answerable a.lent a.question further
 admitted-answerable a further given e = answerable a.lent a.work a.question further (stage-yes given e)

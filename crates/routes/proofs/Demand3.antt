@@ -8,8 +8,7 @@ use mathlib.Core.Path.{◌≡◌, refl, sym, ap, ◌∙◌, subst}
 use mathlib.Core.List.Memᴰ
 use mathlib.Core.List.{List, [], ◌∷◌}
 use lib.ListN.{length, get_or}
-use Rattle.tree.specs.declared.Outcome.TheVariants.{Accepted}
-use Rattle.tree.specs.declared.Traced.TheVariants.{Lifts}
+use Rattle.std.proofs.Common.{Ok}
 use Rattle.tree.specs.Tree.{Tree}
 use Rattle.tree.specs.Tests as tests
 use Rattle.tree.specs.Buffers.{trail_cells, answer_width, answer_cells}
@@ -80,13 +79,13 @@ pub record Runs (s : List ℕ) : Type 0 where
 -- what is claimed of it
 pub record Agree (s : List ℕ) (runs : Runs s) : Type 0 where
   -- no call is refused
-  pub labels-accepted : runs.labels.result ≡ Accepted
-  pub tour-accepted : runs.tour.result ≡ Accepted
-  pub lifts-accepted : runs.lifts.result ≡ Accepted
-  pub list-accepted : runs.list.result ≡ Accepted
-  pub other-accepted : runs.other-list.result ≡ Accepted
-  pub groups-accepted : (g : ℕ) (h : g < runs.groups) → (runs.each-group g h).result ≡ Accepted
-  pub of-groups-accepted : runs.of-groups.result ≡ Accepted
+  pub labels-accepted : runs.labels.result ≡ Ok tt
+  pub tour-accepted : runs.tour.result ≡ Ok tt
+  pub lifts-accepted : runs.lifts.result ≡ Ok tt
+  pub list-accepted : runs.list.result ≡ Ok tt
+  pub other-accepted : runs.other-list.result ≡ Ok tt
+  pub groups-accepted : (g : ℕ) (h : g < runs.groups) → (runs.each-group g h).result ≡ Ok tt
+  pub of-groups-accepted : runs.of-groups.result ≡ Ok tt
   -- "the routes give the same answers in every cell": by labels, by tour and by lifts
   pub labels-as-tour : answers runs.labels ≡ answers runs.tour
   pub tour-as-lifts : answers runs.tour ≡ answers runs.lifts
@@ -102,7 +101,7 @@ pub record Agree (s : List ℕ) (runs : Runs s) : Type 0 where
   -- "the trail is exactly the doubling rule's rows, with 65535 in all cells after them"
   pub rows : rows_after runs.trail-of ≡ trail_buffer (trail (own s) runs.x runs.y)
   -- "and the lift count equals the number of these rows and the sum of ones": the count is given, and not a refusal
-  pub count : runs.trail-of.result ≡ Lifts (length (trail (own s) runs.x runs.y))
+  pub count : runs.trail-of.result ≡ Ok (length (trail (own s) runs.x runs.y))
   pub ones : length (trail (own s) runs.x runs.y) ≡ lift_count s runs.x runs.y
   -- with it the pair's carrier
   pub of_pair : Lca s (runs.x ∷ runs.y ∷ []) (get_or (carrier_cell runs.trail-of) 0 0)

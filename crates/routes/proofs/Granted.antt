@@ -5,11 +5,9 @@ use Prim.Native.Nat.{ℕ, ◌%◌}
 use mathlib.Core.Path.{◌≡◌, refl, sym, ap, ◌∙◌, subst}
 use mathlib.Core.List.{List, [], ◌∷◌}
 use lib.ListN.{length}
-use Rattle.tree.specs.declared.Outcome.{Outcome}
-use Rattle.tree.specs.declared.Outcome.TheVariants.{Accepted}
-use Rattle.tree.specs.declared.Traced.{Traced}
-use Rattle.tree.specs.declared.Traced.TheVariants.{Lifts, Refused}
-use Rattle.tree.specs.Verdict.{accepted, verdict_of, told, lifts_of}
+use Rattle.std.proofs.Common.{Result, Ok, Err}
+use Rattle.tree.specs.declared.Refusal.{Refusal}
+use Rattle.tree.specs.Verdict.{accepted, Outcome, verdict_of, lifts_of}
 use Rattle.tree.specs.Tests as tests
 use Rattle.tree.specs.Buffers.{work_cells, trail_cells, answer_cells}
 use Rattle.tree.specs.Lca.{lca}
@@ -49,9 +47,9 @@ pub trail-lent-fit : {s : List ℕ} {x y : ℕ} {a : Asked} (rows : List ℕ) �
 trail-lent-fit rows l whole = trail-fitting _ _ _ refl l.answer-fits whole
 
 -- a trail's answer that counts lifts is the case that says so
-lifts-case : (r : Traced) (count : ℕ) → verdict_of (told r) ≡ accepted → lifts_of r ≡ count → r ≡ Lifts count
-lifts-case (Lifts n) count e c = ap Lifts c
-lifts-case (Refused why) count e c = absurd (not-both e refl)
+lifts-case : (r : Result ℕ Refusal) (count : ℕ) → verdict_of r ≡ accepted → lifts_of r ≡ count → r ≡ Ok count
+lifts-case (Ok n) count e c = ap Ok c
+lifts-case (Err why) count e c = absurd (not-both e refl)
 
 module _ (s : List ℕ) (accepts : tests.Accepted s) where
   -- a question of its parts is accepted
@@ -62,7 +60,7 @@ module _ (s : List ℕ) (accepts : tests.Accepted s) where
 
   -- pairs by a rule
   pub pairs-granted : {rule : Lent → ℕ → ℕ → ℕ} {question : List ℕ} {a : Asked} {r : Outcome} {work' answer' : List ℕ} → Some s question → length question % 2 ≡ 0
-      → Lends s question (answer_cells (length question)) a → PairsGive rule a r work' answer' → (r ≡ Accepted) × (answer' ≡ each_answer (answer_by rule (own s)) question)
+      → Lends s question (answer_cells (length question)) a → PairsGive rule a r work' answer' → (r ≡ Ok tt) × (answer' ≡ each_answer (answer_by rule (own s)) question)
   pairs-granted {rule} {question} {a} {r} {work'} {answer'} some even l given =
       let g = subst (λ (b : Asked). PairsGive rule b r work' answer') (lends-is a l) given in
       let yes = granted a.work question _ l.work-fits (pairs-lent-fit l even) some in
@@ -70,16 +68,16 @@ module _ (s : List ℕ) (accepts : tests.Accepted s) where
 
   -- a list
   pub list-granted : {question : List ℕ} {a : Asked} {r : Outcome} {work' answer' : List ℕ} → Some s question → Lends s question 1 a
-      → ListGives a r work' answer' → (r ≡ Accepted) × (answer' ≡ lca s question ∷ [])
+      → ListGives a r work' answer' → (r ≡ Ok tt) × (answer' ≡ lca s question ∷ [])
   list-granted {question} {a} {r} {work'} {answer'} some l given =
       let g = subst (λ (b : Asked). ListGives b r work' answer') (lends-is a l) given in
       let yes = granted a.work question _ l.work-fits (list-lent-fit l) some in
       (accepted-case r (g.answered.outcome ∙ yes), g.answer ∙ sym (filled-own _ _ _ yes))
 
   -- a trail
-  pub trail-granted : {x y : ℕ} {a : Asked} {rows : List ℕ} {r : Traced} {work' answer' rows' : List ℕ} → Some s (x ∷ y ∷ []) → Lends s (x ∷ y ∷ []) 1 a
+  pub trail-granted : {x y : ℕ} {a : Asked} {rows : List ℕ} {r : Result ℕ Refusal} {work' answer' rows' : List ℕ} → Some s (x ∷ y ∷ []) → Lends s (x ∷ y ∷ []) 1 a
       → length rows ≡ trail_cells → TrailGives a rows r work' answer' rows'
-      → (r ≡ Lifts (lifts (own s) x y)) × (answer' ≡ by_lifts (own s) x y ∷ []) × (rows' ≡ trail_buffer (trail (own s) x y))
+      → (r ≡ Ok (lifts (own s) x y)) × (answer' ≡ by_lifts (own s) x y ∷ []) × (rows' ≡ trail_buffer (trail (own s) x y))
   trail-granted {x} {y} {a} {rows} {r} {work'} {answer'} {rows'} some l whole given =
       let g = subst (λ (b : Asked). TrailGives b rows r work' answer' rows') (lends-is a l) given in
       let yes = granted a.work (x ∷ y ∷ []) _ l.work-fits (trail-lent-fit rows l whole) some in (

@@ -6,8 +6,9 @@ use mathlib.Core.List.{List}
 use contract.Lifetimes.{Lfts}
 use denote.Triple.Clauses.{AtExit}
 use borrow.Fn.Kinds.{Out, Dens, ended_of}
-use Rattle.tree.specs.declared.Outcome.{Outcome}
-use Rattle.tree.specs.declared.Traced.{Traced}
+use Rattle.std.proofs.Common.{Result}
+use Rattle.tree.specs.declared.Refusal.{Refusal}
+use Rattle.tree.specs.Verdict.{Outcome}
 use Rattle.routes.specs.Answers.{Asked, asked_by}
 use Rattle.routes.proofs.pairs_by_labels.Reads as by-labels
 use Rattle.routes.proofs.pairs_by_tour.Reads as by-tour
@@ -57,7 +58,7 @@ ListRun = Run by-list.Learnt
 pub record TrailRun : Type 0 where
   pub lifetimes : Lfts 9
   pub passed : Dens lifetimes trail.ps
-  pub result : Traced
+  pub result : Result ℕ Refusal
   pub left : AtExit (ended_of 9 trail.ps trail.r) lifetimes
   pub kept : by-trail.Learnt lifetimes passed result left
 

@@ -9,8 +9,7 @@ use contract.Lifetimes.{Lfts}
 use denote.Ref.{Bor, MutBor}
 use denote.Triple.Clauses.{AtExit}
 use lib.ListN.{length, get_or}
-use Rattle.tree.specs.declared.Outcome.TheVariants.{Accepted}
-use Rattle.tree.specs.declared.Traced.TheVariants as traced
+use Rattle.std.proofs.Common.{Ok}
 use Rattle.tree.specs.Tests as tests
 use Rattle.tree.specs.Scan.{tabulate}
 use Rattle.tree.specs.Tree.{Tree}
@@ -74,11 +73,11 @@ module _ (s : List ℕ) where
 
   -- a run of such a call that is accepted, where what it promises holds
   abbrev run_of : {promises : Out 8 list.ps list.r} (question : List ℕ) (cells : ℕ) (answers : List ℕ)
-      → promises lifetimes (passed question cells) Accepted (left question answers) → Run promises
+      → promises lifetimes (passed question cells) (Ok tt) (left question answers) → Run promises
   run_of question cells answers kept = record {
     lifetimes = lifetimes;
     passed = passed question cells;
-    result = Accepted;
+    result = Ok tt;
     left = left question answers;
     kept = kept;
   }
@@ -90,7 +89,7 @@ module _ (s : List ℕ) (accepts : tests.Accepted s) where
   tree = (accepted-tree s accepts).0
 
   -- a question of its parts, with buffers that fit, is accepted and leaves work clear
-  admitted : (question : List ℕ) (further : ℕ) → further ≡ 0 → Some s question → Admitted (own s) (clear s) question further Accepted (clear s)
+  admitted : (question : List ℕ) (further : ℕ) → further ≡ 0 → Some s question → Admitted {A = Unit {0}} (own s) (clear s) question further (Ok tt) (clear s)
   admitted question further fits some =
       let cells = work_cells (length s) in
       let yes = granted s accepts (clear s) question further (zeros-length cells) fits some in
@@ -98,13 +97,13 @@ module _ (s : List ℕ) (accepts : tests.Accepted s) where
 
   -- pairs by a route
   pairs-kept : (route : Route) (question : List ℕ) → Some s question → length question % 2 ≡ 0
-      → PairsGive (rule_of route) (lent s question (answer_cells (length question))) Accepted (clear s) (each_answer (answer_by (rule_of route) (own s)) question)
+      → PairsGive (rule_of route) (lent s question (answer_cells (length question))) (Ok tt) (clear s) (each_answer (answer_by (rule_of route) (own s)) question)
   pairs-kept route question some even =
       let a = lent s question (answer_cells (length question)) in
       pairs-answered route a (admitted question (pairs_unfit a) (pairs-lent-fit (lends s question (answer_cells (length question))) even) some) refl refl
 
   -- a list
-  list-kept : (question : List ℕ) → Some s question → ListGives (lent s question 1) Accepted (clear s) (lca s question ∷ [])
+  list-kept : (question : List ℕ) → Some s question → ListGives (lent s question 1) (Ok tt) (clear s) (lca s question ∷ [])
   list-kept question some =
       let a = lent s question 1 in
       list-answered a (admitted question (list_unfit a) (list-lent-fit (lends s question 1)) some) refl refl
@@ -114,7 +113,7 @@ module _ (s : List ℕ) (accepts : tests.Accepted s) where
 
   -- a trail
   trail-kept : (x y : ℕ) → Some s (x ∷ y ∷ [])
-      → TrailGives (lent s (x ∷ y ∷ []) 1) (zeros trail_cells) (traced.Lifts (lifts (own s) x y))
+      → TrailGives (lent s (x ∷ y ∷ []) 1) (zeros trail_cells) (Ok (lifts (own s) x y))
       (clear s) (by_lifts (own s) x y ∷ []) (trail_buffer (trail (own s) x y))
   trail-kept x y some =
       let a = lent s (x ∷ y ∷ []) 1 in
@@ -126,7 +125,7 @@ module _ (s : List ℕ) (accepts : tests.Accepted s) where
   trail-run x y some = record {
     lifetimes = ([], lifetimes);
     passed = refs s (x ∷ y ∷ []) (mut_ref (zeros 1), (mut_ref (zeros trail_cells), tt));
-    result = traced.Lifts (lifts (own s) x y);
+    result = Ok (lifts (own s) x y);
     left = refs s (x ∷ y ∷ []) (mut_ref (by_lifts (own s) x y ∷ []), (mut_ref (trail_buffer (trail (own s) x y)), tt));
     kept = trail-kept x y some;
   }

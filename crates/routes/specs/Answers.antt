@@ -1,9 +1,8 @@
 -- What the calls that answer give, from their inputs alone: pairs by a route, the trail of a pair, and the carrier of a list.
 -- Assumes nothing.
-use Rattle.std.specs.Prelude.{ℕ, ◌<◌, ◌≡◌, List, [], ◌∷◌, length, get_or}
-use Rattle.tree.specs.declared.Outcome.{Outcome}
-use Rattle.tree.specs.declared.Traced.{Traced}
-use Rattle.tree.specs.Verdict.{Verdict, accepted, told, lifts_of}
+use Rattle.std.specs.Prelude.{ℕ, ◌<◌, ◌≡◌, List, [], ◌∷◌, length, get_or, Result}
+use Rattle.tree.specs.declared.Refusal.{Refusal}
+use Rattle.tree.specs.Verdict.{Verdict, accepted, Outcome, lifts_of}
 use Rattle.tree.specs.Tests.{asked_tests}
 use Rattle.tree.specs.Buffers.{pairs_fits, trail_fits, list_fits, first_unfit, filled}
 use Rattle.tree.specs.Lca.{Lca, lca}
@@ -15,7 +14,7 @@ use Rattle.tree.specs.Branch.{IsAnswer, answer_by}
 use Rattle.tree.specs.Pairs.{left_of, right_of, pair_at, pairs, each_answer, answer_at}
 
 -- the answer to tests 1 to 11, and work afterwards; `further` is the lowest of the question, the answer and the trail that does not fit, or 0
-abbrev pub Admitted : Lent → List ℕ → List ℕ → ℕ → Outcome → List ℕ → Type 0
+abbrev pub Admitted : {A : Type 0} → Lent → List ℕ → List ℕ → ℕ → Result A Refusal → List ℕ → Type 0
 Admitted t before question further = Answered (asked_tests t (unfit_of t before further) question) before
 
 -- what a call that answers is lent: a sheet with its tables, work, the question and the answer's cells
@@ -57,8 +56,8 @@ abbrev pub trail_verdict : Asked → List ℕ → Verdict
 trail_verdict a rows = asked_verdict a.lent a.work a.question (trail_unfit a rows)
 
 -- an accepted call fills the answer with the lift route's, and the trail with its rows. It gives the count of the lifts, which is the sum of ones
-pub record TrailGives (a : Asked) (rows : List ℕ) (r : Traced) (work' answer' rows' : List ℕ) : Type 0 where
-  pub answered : Admitted a.lent a.work a.question (trail_unfit a rows) (told r) work'
+pub record TrailGives (a : Asked) (rows : List ℕ) (r : Result ℕ Refusal) (work' answer' rows' : List ℕ) : Type 0 where
+  pub answered : Admitted a.lent a.work a.question (trail_unfit a rows) r work'
   pub count : lifts_of r ≡ filled (trail_verdict a rows) (lifts a.lent (left_of a.question 0) (right_of a.question 0)) 0
   pub answer : answer' ≡ filled (trail_verdict a rows) (by_lifts a.lent (left_of a.question 0) (right_of a.question 0) ∷ []) a.answer
   pub trail : rows' ≡ filled (trail_verdict a rows) (trail_buffer (trail a.lent (left_of a.question 0) (right_of a.question 0))) rows

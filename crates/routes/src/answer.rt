@@ -33,8 +33,7 @@ pub(crate) fn pairs(
         × (label.now ≡ label_table parents.now) × (tour.now ≡ tour_table parents.now) × (lift.now ≡ lift_table parents.now) }
     ensures { answer.new ≡ each_answer (answer_by (rule_of route) (own parents.now)) question.now }
 {
-    let mut i = 0;
-    while i < question.len() / 2 {
+    for i in 0..question.len() / 2 {
         let at = 2 * i;
         let x = node(question, at);
         let y = node(question, at + 1);
@@ -49,7 +48,6 @@ pub(crate) fn pairs(
             i * ANSWER_CELLS,
             answer,
         );
-        i += 1;
     }
 }
 

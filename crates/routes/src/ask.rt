@@ -9,7 +9,7 @@ ghost use Rattle.tree.specs.Nodes.{Small};
 ghost use Rattle.routes.specs.Answers.{Admitted};
 
 use crate::ANSWER_CELLS;
-use tree::{Outcome, Refusal};
+use tree::Refusal;
 
 // The numbers of the buffers.
 const QUESTION: usize = 5;
@@ -28,30 +28,27 @@ pub(crate) fn admit(
     work: &mut [u16],
     question: &[u16],
     unfit: usize,
-) -> Outcome
+) -> Result<(), Refusal>
     ensures { Admitted (lent_by parents.now label.now tour.now lift.now order.now)
         work.old question.now unfit result work.new }
 {
-    let r = tables::admit_lent(parents, label, tour, lift, order, unfit, work);
-    let Outcome::Accepted = r else {
-        return r;
-    };
+    tables::admit_lent(parents, label, tour, lift, order, unfit, work)?;
     test_question(parents, question)
 }
 
 // Tests 9 to 11. Test 11 is never met: the root carries every part.
-fn test_question(parents: &[u16], question: &[u16]) -> Outcome
+fn test_question(parents: &[u16], question: &[u16]) -> Result<(), Refusal>
     requires { Small parents.now }
     ensures { verdict_of result ≡ verdict (question_tests parents.now 0 question.now) }
 {
     if question.len() == 0 {
-        return Outcome::Refused(Refusal::NothingListed);
+        return Err(Refusal::NothingListed);
     }
     let at = cells::first_from(question, parents.len());
     if at < question.len() {
-        return Outcome::Refused(Refusal::NodeOutOfRange(at));
+        return Err(Refusal::NodeOutOfRange(at));
     }
-    Outcome::Accepted
+    Ok(())
 }
 
 // The lowest further buffer of a call for pairs that does not fit, by its length, or 0.

@@ -12,7 +12,7 @@ ghost use Rattle.tree.specs.Trail.{by_lifts};
 ghost use Rattle.routes.specs.Rules.{rule_of};
 ghost use Rattle.routes.specs.Answers.{asked_by, PairsGive, TrailGives, ListGives};
 
-use tree::{Outcome, Traced};
+use tree::Refusal;
 
 // The three routes.
 #[derive(Clone, Copy)]
@@ -35,7 +35,7 @@ pub fn pairs_by_labels(
     work: &mut [u16],
     question: &[u16],
     answer: &mut [u16],
-) -> Outcome
+) -> Result<(), Refusal>
     ensures { PairsGive by_labels
         (asked_by parents.now label.now tour.now lift.now order.now work.old question.now answer.old)
         result work.new answer.new }
@@ -63,7 +63,7 @@ pub fn pairs_by_tour(
     work: &mut [u16],
     question: &[u16],
     answer: &mut [u16],
-) -> Outcome
+) -> Result<(), Refusal>
     ensures { PairsGive by_tour
         (asked_by parents.now label.now tour.now lift.now order.now work.old question.now answer.old)
         result work.new answer.new }
@@ -91,7 +91,7 @@ pub fn pairs_by_lifts(
     work: &mut [u16],
     question: &[u16],
     answer: &mut [u16],
-) -> Outcome
+) -> Result<(), Refusal>
     ensures { PairsGive by_lifts
         (asked_by parents.now label.now tour.now lift.now order.now work.old question.now answer.old)
         result work.new answer.new }
@@ -120,18 +120,15 @@ pub fn pairs(
     work: &mut [u16],
     question: &[u16],
     answer: &mut [u16],
-) -> Outcome
+) -> Result<(), Refusal>
     ensures { PairsGive (rule_of route)
         (asked_by parents.now label.now tour.now lift.now order.now work.old question.now answer.old)
         result work.new answer.new }
 {
     let unfit = ask::pairs_unfit(question.len(), answer.len());
-    let r = ask::admit(parents, label, tour, lift, order, work, question, unfit);
-    let Outcome::Accepted = r else {
-        return r;
-    };
+    ask::admit(parents, label, tour, lift, order, work, question, unfit)?;
     answer::pairs(route, parents, label, tour, lift, question, answer);
-    r
+    Ok(())
 }
 
 // The trail of one pair, of two cells, in the 64 cells of `rows`: each lift's row, and 65535 after them. The carrier is the answer's one cell; the
@@ -146,19 +143,14 @@ pub fn trail(
     question: &[u16],
     answer: &mut [u16],
     rows: &mut [u16],
-) -> Traced
+) -> Result<usize, Refusal>
     ensures { TrailGives
         (asked_by parents.now label.now tour.now lift.now order.now work.old question.now answer.old)
         rows.old result work.new answer.new rows.new }
 {
     let unfit = ask::trail_unfit(question.len(), answer.len(), rows.len());
-    let r = ask::admit(parents, label, tour, lift, order, work, question, unfit);
-    match r {
-        Outcome::Accepted => {
-            Traced::Lifts(answer::trail(parents, label, lift, question, answer, rows))
-        }
-        Outcome::Refused(why) => Traced::Refused(why),
-    }
+    ask::admit(parents, label, tour, lift, order, work, question, unfit)?;
+    Ok(answer::trail(parents, label, lift, question, answer, rows))
 }
 
 // The carrier of a list of parts, in the answer's one cell: that of the first and the last of them in preorder.
@@ -171,16 +163,13 @@ pub fn list(
     work: &mut [u16],
     question: &[u16],
     answer: &mut [u16],
-) -> Outcome
+) -> Result<(), Refusal>
     ensures { ListGives
         (asked_by parents.now label.now tour.now lift.now order.now work.old question.now answer.old)
         result work.new answer.new }
 {
     let unfit = ask::list_unfit(answer.len());
-    let r = ask::admit(parents, label, tour, lift, order, work, question, unfit);
-    let Outcome::Accepted = r else {
-        return r;
-    };
+    ask::admit(parents, label, tour, lift, order, work, question, unfit)?;
     answer::list(parents, label, tour, question, answer);
-    r
+    Ok(())
 }

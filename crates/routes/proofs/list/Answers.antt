@@ -1,6 +1,7 @@
 -- `routes::list` meets its contract: the tests decide, and where they accept, the list's carrier is stored.
 -- Assumes nothing.
 use mathlib.Core.Path.{sym, ◌∙◌}
+use Rattle.tree.proofs.Verdicts.{handed_on}
 use Rattle.tree.proofs.Fits.{list-fit}
 use Rattle.routes.specs.Answers.{Asked, asked_by}
 use Rattle.routes.proofs.Asking.{admitted-as, admitted-answerable}
@@ -12,18 +13,18 @@ use Rattle.routes.proofs.list.Goals.{Start}
 abbrev asked : Start → Asked
 asked c = let a = c.args in asked_by a.parents.now a.label.now a.tour.now a.lift.now a.order.now a.work.now a.question.now a.answer.now
 
-pub returns-in_default : goal.returns-in_default
-returns-in_default c =
-    list-refused (asked (goal.at.returns-in_default c).Start)
-    (admitted-as (asked (goal.at.returns-in_default c).Start) c.list_unfit-unfit.ensures c.admit-r.ensures) c.in_default.is
+pub returns-in_err-admit : goal.returns-in_err-admit
+returns-in_err-admit c =
+    list-refused (asked (goal.at.returns-in_err-admit c).Start)
+    (admitted-as (asked (goal.at.returns-in_err-admit c).Start) c.list_unfit-unfit.ensures c.admit.ensures) c.in_err-admit.was (handed_on c.from_residual.result c.from_residual.ensures.1)
 
 pub list-requires : goal.list-requires
 list-requires c =
-    let ready = admitted-answerable (asked (goal.at.list-requires c).Start) _ c.admit-r.ensures c.in-Accepted.is in
+    let ready = admitted-answerable (asked (goal.at.list-requires c).Start) _ c.admit.ensures c.in_ok-admit.was in
     (ready.listed, list-fit _ (sym c.list_unfit-unfit.ensures ∙ ready.owned.fits), ready.owned.label, ready.owned.tour)
 
 pub returns : goal.returns
 returns c =
-    list-answered (asked (goal.at.returns c).Start) (admitted-as (asked (goal.at.returns c).Start) c.list_unfit-unfit.ensures c.admit-r.ensures)
-    c.in-Accepted.is
+    list-answered (asked (goal.at.returns c).Start) (admitted-as (asked (goal.at.returns c).Start) c.list_unfit-unfit.ensures c.admit.ensures)
+    c.in_ok-admit.was
     c.list.ensures

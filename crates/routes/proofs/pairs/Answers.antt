@@ -1,6 +1,7 @@
 -- `routes::pairs` meets its contract: the tests decide, and where they accept, each pair's answer is stored.
 -- Assumes nothing.
 use mathlib.Core.Path.{sym, ◌∙◌}
+use Rattle.tree.proofs.Verdicts.{handed_on}
 use Rattle.tree.proofs.Fits.{pairs-fit}
 use Rattle.routes.specs.Answers.{Asked, asked_by}
 use Rattle.routes.proofs.Asking.{admitted-as, admitted-answerable}
@@ -13,19 +14,19 @@ use Rattle.routes.proofs.pairs.Goals.{Start}
 abbrev asked : Start → Asked
 asked c = let a = c.args in asked_by a.parents.now a.label.now a.tour.now a.lift.now a.order.now a.work.now a.question.now a.answer.now
 
-pub returns-in_default : goal.returns-in_default
-returns-in_default c =
-    pairs-refused c.args.route (asked (goal.at.returns-in_default c).Start)
-    (admitted-as (asked (goal.at.returns-in_default c).Start) c.pairs_unfit-unfit.ensures c.admit-r.ensures) c.in_default.is
+pub returns-in_err-admit : goal.returns-in_err-admit
+returns-in_err-admit c =
+    pairs-refused c.args.route (asked (goal.at.returns-in_err-admit c).Start)
+    (admitted-as (asked (goal.at.returns-in_err-admit c).Start) c.pairs_unfit-unfit.ensures c.admit.ensures) c.in_err-admit.was (handed_on c.from_residual.result c.from_residual.ensures.1)
 
 pub pairs-requires : goal.pairs-requires
 pairs-requires c =
-    let ready = admitted-answerable (asked (goal.at.pairs-requires c).Start) _ c.admit-r.ensures c.in-Accepted.is in
+    let ready = admitted-answerable (asked (goal.at.pairs-requires c).Start) _ c.admit.ensures c.in_ok-admit.was in
     let (_, cells) = pairs-fit (length c.args.question.now) (length c.args.answer.now) (sym c.pairs_unfit-unfit.ensures ∙ ready.owned.fits) in
     (ready.listed, cells, ready.owned.label, ready.owned.tour, ready.owned.lift)
 
 pub returns : goal.returns
 returns c =
     pairs-answered c.args.route (asked (goal.at.returns c).Start)
-    (admitted-as (asked (goal.at.returns c).Start) c.pairs_unfit-unfit.ensures c.admit-r.ensures)
-    c.in-Accepted.is c.pairs.ensures
+    (admitted-as (asked (goal.at.returns c).Start) c.pairs_unfit-unfit.ensures c.admit.ensures)
+    c.in_ok-admit.was c.pairs.ensures

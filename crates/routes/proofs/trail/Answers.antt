@@ -2,6 +2,7 @@
 -- Assumes nothing.
 use native.Mathlib.Omega.{arith}
 use mathlib.Core.Path.{sym, ◌∙◌}
+use Rattle.tree.proofs.Verdicts.{handed_on}
 use Rattle.tree.proofs.Fits.{trail_fit_lem}
 use Rattle.tree.proofs.Pairs.{question-pair}
 use Rattle.routes.specs.Answers.{Asked, asked_by}
@@ -17,24 +18,24 @@ asked c = let a = c.args in asked_by a.parents.now a.label.now a.tour.now a.lift
 
 pub trail-requires : goal.trail-requires
 trail-requires c =
-    let ready = admitted-answerable (asked (goal.at.trail-requires c).Start) _ c.admit-r.ensures c.in-Accepted.is in
+    let ready = admitted-answerable (asked (goal.at.trail-requires c).Start) _ c.admit.ensures c.in_ok-admit.was in
     let (two, one, whole) =
     trail_fit_lem (length (asked (goal.at.trail-requires c).Start).question) (length (asked (goal.at.trail-requires c).Start).answer)
     (length c.args.rows.now) (sym c.trail_unfit-unfit.ensures ∙ ready.owned.fits) in
     (question-pair ready.listed 0 (omega arith), two, one, whole, ready.owned.label, ready.owned.lift)
 
-pub returns-in-Accepted : goal.returns-in-Accepted
-returns-in-Accepted c =
-    let ready = admitted-answerable (asked (goal.at.returns-in-Accepted c).Start) _ c.admit-r.ensures c.in-Accepted.is in
+pub returns : goal.returns
+returns c =
+    let ready = admitted-answerable (asked (goal.at.returns c).Start) _ c.admit.ensures c.in_ok-admit.was in
     let (two, _, _) =
-    trail_fit_lem (length (asked (goal.at.returns-in-Accepted c).Start).question) (length (asked (goal.at.returns-in-Accepted c).Start).answer)
+    trail_fit_lem (length (asked (goal.at.returns c).Start).question) (length (asked (goal.at.returns c).Start).answer)
     (length c.args.rows.now) (sym c.trail_unfit-unfit.ensures ∙ ready.owned.fits) in
     let done = c.trail.ensures in
-    trail-answered (asked (goal.at.returns-in-Accepted c).Start) c.args.rows.now
-    (admitted-as (asked (goal.at.returns-in-Accepted c).Start) c.trail_unfit-unfit.ensures c.admit-r.ensures) c.in-Accepted.is
+    trail-answered (asked (goal.at.returns c).Start) c.args.rows.now
+    (admitted-as (asked (goal.at.returns c).Start) c.trail_unfit-unfit.ensures c.admit.ensures) c.in_ok-admit.was
     done.0 done.1 done.2 two
 
-pub returns-in-Refused : goal.returns-in-Refused
-returns-in-Refused c =
-    trail-refused (asked (goal.at.returns-in-Refused c).Start) c.args.rows.now
-    (admitted-as (asked (goal.at.returns-in-Refused c).Start) c.trail_unfit-unfit.ensures c.admit-r.ensures) c.in-Refused.is
+pub returns-in_err-admit : goal.returns-in_err-admit
+returns-in_err-admit c =
+    trail-refused (asked (goal.at.returns-in_err-admit c).Start) c.args.rows.now
+    (admitted-as (asked (goal.at.returns-in_err-admit c).Start) c.trail_unfit-unfit.ensures c.admit.ensures) c.in_err-admit.was (handed_on c.from_residual.result c.from_residual.ensures.1)

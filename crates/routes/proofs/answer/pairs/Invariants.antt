@@ -16,5 +16,3 @@ invariant-loop-i l =
     (l.i ≤ length l.question / 2) × (length l.answer ≡ answer_cells (length l.question))
     × Same l.answer 0 (each_answer (answer_by (rule_of l.route) (own l.parents)) l.question) 0 (l.i * answer_width)
 
-abbrev pub decreases-loop-i : goal.decreases-loop-i
-decreases-loop-i l = length l.question / 2 - l.i
