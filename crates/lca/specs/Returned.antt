@@ -1,9 +1,9 @@
 -- What a call of the library gives through C: a number that is returned, and a value that is stored.
 -- Assumes nothing.
-use Rattle.std.specs.Prelude.{ℕ, ◌≡◌}
-use Rattle.tree.specs.declared.Outcome.{Outcome}
+use Rattle.std.specs.Prelude.{ℕ, ◌≡◌, Result}
+use Rattle.tree.specs.declared.Refusal.{Refusal}
 use Rattle.tree.specs.declared.Located.{Located}
-use Rattle.tree.specs.Verdict.{Verdict, accepted, refused, verdict_of, located_of}
+use Rattle.tree.specs.Verdict.{Verdict, accepted, refused, Outcome, verdict_of, located_of}
 
 -- the number that is returned: the refusal's, 0 for an accepted call
 abbrev pub number_in : Verdict → ℕ
@@ -20,7 +20,7 @@ abbrev pub outcome_of : Outcome → Verdict × ℕ
 outcome_of r = (verdict_of r, 0)
 
 -- a subtree's verdict, and the count of its parts
-abbrev pub located_count : Located → Verdict × ℕ
+abbrev pub located_count : Result Located Refusal → Verdict × ℕ
 located_count r = let (verdict, start, count) = located_of r in (verdict, count)
 
 -- a call of the library gave an answer of which its contract `Gives` holds, and these are the answer's number and value; `read` is the

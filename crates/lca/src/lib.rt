@@ -19,7 +19,7 @@ ghost use Rattle.wear.specs.Totals.{TotalsGive};
 ghost use Rattle.lca.specs.Returned.{number_in, value_in, outcome_of, located_count, Returned};
 ghost use Rattle.lca.specs.Version.{version};
 
-use tree::{Located, Outcome, Refusal, Traced};
+use tree::{Located, Numbered, Refusal};
 
 // The version of the interface, as LCA_VERSION in include/lca.h has it.
 const VERSION: u32 = 4;
@@ -228,36 +228,36 @@ pub extern "C" fn lca_totals(
 }
 
 // An outcome as C sees it.
-fn returned(r: Outcome, value: &mut u64) -> u32
+fn returned(r: Result<(), Refusal>, value: &mut u64) -> u32
     ensures { (result ≡ number_in (verdict_of r)) × (value.new ≡ value_in (verdict_of r) 0) }
 {
     match r {
-        Outcome::Accepted => accept(0, value),
-        Outcome::Refused(why) => refuse(why, value),
+        Ok(()) => accept(0, value),
+        Err(why) => refuse(why, value),
     }
 }
 
 // A trace as C sees it.
-fn traced(r: Traced, value: &mut u64) -> u32
+fn traced(r: Result<usize, Refusal>, value: &mut u64) -> u32
     ensures { (result ≡ number_in (traced_of r).0) × (value.new ≡ value_in (traced_of r).0 (traced_of r).1) }
 {
     match r {
-        Traced::Lifts(count) => accept(count, value),
-        Traced::Refused(why) => refuse(why, value),
+        Ok(count) => accept(count, value),
+        Err(why) => refuse(why, value),
     }
 }
 
 // A subtree that was located as C sees it.
-fn located(r: Located, start: &mut u64, value: &mut u64) -> u32
+fn located(r: Result<Located, Refusal>, start: &mut u64, value: &mut u64) -> u32
     ensures { (result ≡ number_in (located_count r).0) × (value.new ≡ value_in (located_count r).0 (located_count r).1)
         × (start.new ≡ start_of r) }
 {
     match r {
-        Located::At(first, count) => {
-            *start = first as u64;
-            accept(count, value)
+        Ok(found) => {
+            *start = found.start as u64;
+            accept(found.count, value)
         }
-        Located::Refused(why) => {
+        Err(why) => {
             *start = 0;
             refuse(why, value)
         }
@@ -276,7 +276,7 @@ fn accept(count: usize, value: &mut u64) -> u32
 fn refuse(why: Refusal, value: &mut u64) -> u32
     ensures { (result ≡ number_of why) × (value.new ≡ place_of why) }
 {
-    let at = why.number_and_place();
+    let at = Numbered::from(why);
     *value = at.place as u64;
     at.number as u32
 }

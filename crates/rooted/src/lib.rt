@@ -26,7 +26,12 @@ pub fn root(parents: &[u16]) -> usize
 // Tests 4 to 7, the parts counted from `shift` on. The loop test keeps its links in `work`; where the sheet is accepted and an order is asked for, the first
 // n − 1 cells are a bottom-up order afterwards, and the third n the entries beside it. Whether tests 4 to 6 pass is told by one pass; only where they do not,
 // the first that fails is looked for.
-pub fn test_tree(parents: &[u16], shift: usize, ordered: bool, work: &mut [u16]) -> Result<(), Refusal>
+pub fn test_tree(
+    parents: &[u16],
+    shift: usize,
+    ordered: bool,
+    work: &mut [u16],
+) -> Result<(), Refusal>
     requires { Roomy parents.now work.old × (shift ≤ limit) }
     ensures { TreeTested parents.now shift ordered result work.new }
 {

@@ -7,9 +7,10 @@ use mathlib.Core.Logic.{◌↔◌}
 use mathlib.Core.List.{List, [], Memᴰ}
 use lib.ListN.{length}
 use denote.Ref.{Bor}
-use Rattle.tree.specs.declared.Outcome.TheVariants as outcome
+use Rattle.std.proofs.Common.{Result}
+use Rattle.tree.specs.declared.Refusal.{Refusal}
 use Rattle.tree.specs.declared.Located.{Located}
-use Rattle.tree.specs.Verdict.{accepted, refused, verdict_of, located_as, start_of, count_of}
+use Rattle.tree.specs.Verdict.{accepted, refused, verdict_of, start_of, count_of}
 use Rattle.tree.specs.Tree.{Ancestor}
 use Rattle.tree.specs.Preorder.{size, subtree}
 use Rattle.tree.specs.Tests.{Accepted}
@@ -59,14 +60,14 @@ module _ {t : Lent} {order : Bor (List ℕ)} {part : ℕ} {before : List ℕ} {r
 
   -- "a check of the same inputs gives number and place": both calls tell the same. The stretch has a cell exactly if `locate` accepts, it is the one that was
   -- located, and work is left alike
-  pub both-tell : {found : Located} {left : List ℕ} → LocateGives t part before found left
-      → ((0 < length r.now) ↔ (located_as found ≡ outcome.Accepted)) × SliceOf order (start_of found) (count_of found) r × (left ≡ after)
+  pub both-tell : {found : Result Located Refusal} {left : List ℕ} → LocateGives t part before found left
+      → ((0 < length r.now) ↔ (verdict_of found ≡ accepted)) × SliceOf order (start_of found) (count_of found) r × (left ≡ after)
   both-tell {found} {left} l =
       let v = part_verdict t before part in (
         (
-          λ h. by-verdict v (λ e. accepted-case (located_as found) (l.answered.outcome ∙ e))
+          λ h. by-verdict v (λ e. l.answered.outcome ∙ e)
               (λ number place e. let none = ap length (stretch-none e) in absurd (omega arith)),
-          λ e. (stretch-some (sym l.answered.outcome ∙ ap verdict_of e)).1,
+          λ e. (stretch-some (sym l.answered.outcome ∙ e)).1,
         ),
         rw (l.start, l.count) g.stretch,
         l.answered.work ∙ sym g.work,

@@ -11,11 +11,9 @@ use lib.ListN.{length, get_or, take, drop}
 use denote.Ref.{Bor}
 use Rattle.tree.specs.declared.Refusal.{Refusal}
 use Rattle.tree.specs.declared.Refusal.TheVariants.{NodeOutOfRange}
-use Rattle.tree.specs.declared.Outcome.{Outcome}
-use Rattle.tree.specs.declared.Outcome.TheVariants as outcome
+use Rattle.std.proofs.Common.{Result, Ok, Err}
 use Rattle.tree.specs.declared.Located.{Located}
-use Rattle.tree.specs.declared.Located.TheVariants.{At, Refused}
-use Rattle.tree.specs.Verdict.{Verdict, accepted, refused, start_of, count_of}
+use Rattle.tree.specs.Verdict.{Verdict, accepted, refused, Outcome, start_of, count_of}
 use Rattle.tree.specs.Preorder.{preorder_number, size, subtree}
 use Rattle.tree.specs.Labels.{label_table}
 use Rattle.tree.specs.Nodes.{Small}
@@ -57,14 +55,14 @@ own-numbers {s} {label} {part} small e h = record {
 }
 
 -- a number that is no part
-pub find-refused : (s : List ℕ) (part : ℕ) → length s ≤ part → FindGives s part (Refused (NodeOutOfRange 0))
+pub find-refused : (s : List ℕ) (part : ℕ) → length s ≤ part → FindGives s part (Err (NodeOutOfRange 0))
 find-refused s part h =
     let no = refused-part s part h in
     record { outcome = sym no; start = filled-kept (part_test s part) _ _ _ _ no; count = filled-kept (part_test s part) _ _ _ _ no }
 
 -- a part, by its PREORDER and SIZE
 pub find-found : {s label : List ℕ} (part : ℕ) → part < length s → OwnNumbers s label part
-    → FindGives s part (At (get_or label part 0 - 1) (get_or label (length s + part) 0))
+    → FindGives s part (Ok (record { start = get_or label part 0 - 1; count = get_or label (length s + part) 0 }))
 find-found {s} part h c =
     let yes = accepted-part s part h in
     record {
@@ -84,17 +82,17 @@ module _ (t : Lent) (before : List ℕ) (part : ℕ) {r : Outcome} {after : List
   s = t.parents
 
   -- a sheet or tables that are refused are refused whatever part is named
-  pub locate-refused : {why : Refusal} → r ≡ outcome.Refused why → LocateGives t part before (Refused why) after
-  locate-refused {why} e =
+  pub locate-refused : {why : Refusal} {q : Result Located Refusal} → r ≡ Err why → q ≡ Err why → LocateGives t part before q after
+  locate-refused {why} {q} e same =
       let no = refused-on (lent_tests t (unfit_of t before 0)) (last_test s part) _ _ (stage-no given e) in
       record {
-        answered = subst (λ (q : Outcome). Answered (part_tests t (unfit_of t before 0) part) before q after) e (stage-refused given (last_test s part) e);
-        start = filled-kept (part_verdict t before part) _ _ _ _ no;
-        count = filled-kept (part_verdict t before part) _ _ _ _ no;
+        answered = stage-refused given (last_test s part) e same;
+        start = ap start_of same ∙ filled-kept (part_verdict t before part) _ _ _ _ no;
+        count = ap count_of same ∙ filled-kept (part_verdict t before part) _ _ _ _ no;
       }
 
   -- where they are accepted, the part decides
-  pub locate-found : {found : Located} → r ≡ outcome.Accepted → FindGives s part found → LocateGives t part before found after
+  pub locate-found : {found : Result Located Refusal} → r ≡ Ok tt → FindGives s part found → LocateGives t part before found after
   locate-found e f =
       let on : part_verdict t before part ≡ part_test s part = accepted-on (lent_tests t (unfit_of t before 0)) (last_test s part) (stage-yes given e) in
       record {
@@ -104,7 +102,7 @@ module _ (t : Lent) (before : List ℕ) (part : ℕ) {r : Outcome} {after : List
       }
 
   -- and the tables are the sheet's own
-  pub locate-owned : r ≡ outcome.Accepted → Owned t 0
+  pub locate-owned : r ≡ Ok tt → Owned t 0
   locate-owned e = lent-owned t before 0 (stage-yes given e)
 
 -- ---- the stretch
@@ -146,7 +144,7 @@ module _ (t : Lent) (before : List ℕ) (part : ℕ) where
       ∙ filled-own v _ _ e))
       (λ number place e. rw (filled_none v (size t.parents part) e) (filled-kept v number place (subtree t.parents part) [] e))
 
-  module _ (order : Bor (List ℕ)) {found : Located} {after : List ℕ} (lent : order.now ≡ t.order) (g : LocateGives t part before found after) where
+  module _ (order : Bor (List ℕ)) {found : Result Located Refusal} {after : List ℕ} (lent : order.now ≡ t.order) (g : LocateGives t part before found after) where
     -- the stretch that was located
     pub locate-within : start_of found + count_of found ≤ length order.now
     locate-within = rw (g.start, g.count, lent) stretch-within

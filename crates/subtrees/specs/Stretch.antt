@@ -1,9 +1,10 @@
 -- What the calls for a subtree give, from their inputs alone (document 02, 2026-01): where its parts stand in the lent order table, and that stretch of the table.
 -- Assumes nothing.
-use Rattle.std.specs.Prelude.{ℕ, ◌+◌, ◌-◌, ◌*◌, ◌≡◌, List, [], ◌∷◌, get_or, take, drop}
+use Rattle.std.specs.Prelude.{ℕ, ◌+◌, ◌-◌, ◌*◌, ◌≡◌, List, [], ◌∷◌, get_or, take, drop, Result}
 use Rattle.std.specs.Borrow.{Bor}
 use Rattle.tree.specs.declared.Located.{Located}
-use Rattle.tree.specs.Verdict.{Verdict, accepted, verdict_of, located_as, start_of, count_of}
+use Rattle.tree.specs.declared.Refusal.{Refusal}
+use Rattle.tree.specs.Verdict.{Verdict, accepted, verdict_of, start_of, count_of}
 use Rattle.tree.specs.Preorder.{preorder_number, size, subtree}
 use Rattle.tree.specs.Tests.{verdict, node_out_of_range, part_tests}
 use Rattle.tree.specs.Buffers.{work_after, filled}
@@ -38,14 +39,14 @@ abbrev pub part_test : List ℕ → ℕ → Verdict
 part_test s part = verdict (node_out_of_range s 0 (part ∷ []) ∷ [])
 
 -- a part that is looked for on an accepted sheet
-pub record FindGives (s : List ℕ) (part : ℕ) (r : Located) : Type 0 where
-  pub outcome : verdict_of (located_as r) ≡ part_test s part
+pub record FindGives (s : List ℕ) (part : ℕ) (r : Result Located Refusal) : Type 0 where
+  pub outcome : verdict_of r ≡ part_test s part
   pub start : start_of r ≡ start_by (part_test s part) s part
   pub count : count_of r ≡ count_by_verdict (part_test s part) s part
 
 -- "a check of the same inputs gives number and place"
-pub record LocateGives (t : Lent) (part : ℕ) (before : List ℕ) (r : Located) (after : List ℕ) : Type 0 where
-  pub answered : Answered (part_tests t (unfit_of t before 0) part) before (located_as r) after
+pub record LocateGives (t : Lent) (part : ℕ) (before : List ℕ) (r : Result Located Refusal) (after : List ℕ) : Type 0 where
+  pub answered : Answered (part_tests t (unfit_of t before 0) part) before r after
   pub start : start_of r ≡ start_by (part_verdict t before part) t.parents part
   pub count : count_of r ≡ count_by_verdict (part_verdict t before part) t.parents part
 

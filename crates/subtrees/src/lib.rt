@@ -11,7 +11,7 @@ ghost use Rattle.tree.specs.Tables.{lent_by};
 ghost use Rattle.tree.specs.Verdict.{start_of, count_of};
 ghost use Rattle.subtrees.specs.Stretch.{SliceOf, FindGives, LocateGives, SubtreeGives};
 
-use tree::{Located, Outcome, Refusal};
+use tree::{Located, Refusal};
 
 // Where the parts that `part` carries stand in the order table: the first of their cells, and how many there are; or why the call is refused.
 pub fn locate(
@@ -22,15 +22,12 @@ pub fn locate(
     order: &[u16],
     work: &mut [u16],
     part: usize,
-) -> Located
+) -> Result<Located, Refusal>
     ensures { LocateGives (lent_by parents.now label.now tour.now lift.now order.now)
         part work.old result work.new }
 {
-    let r = tables::compare(parents, label, tour, lift, order, work);
-    match r {
-        Outcome::Accepted => find(parents, label, part),
-        Outcome::Refused(why) => Located::Refused(why),
-    }
+    tables::compare(parents, label, tour, lift, order, work)?;
+    find(parents, label, part)
 }
 
 // These cells themselves, never a copy: the stretch of `order` that begins with the part. It has no cell where the call is refused, and else at least one;
@@ -52,24 +49,27 @@ pub fn subtree<'a>(
 }
 
 // Test 10 of the part, and where its subtree stands: PREORDER and SIZE of an accepted sheet say it.
-fn find(parents: &[u16], label: &[u16], part: usize) -> Located
+fn find(parents: &[u16], label: &[u16], part: usize) -> Result<Located, Refusal>
     requires { Small parents.now × (label.now ≡ label_table parents.now) }
     ensures { FindGives parents.now part result }
 {
     let n = parents.len();
     if n <= part {
-        return Located::Refused(Refusal::NodeOutOfRange(0));
+        return Err(Refusal::NodeOutOfRange(0));
     }
-    Located::At(label[part] as usize - 1, label[n + part] as usize)
+    Ok(Located {
+        start: label[part] as usize - 1,
+        count: label[n + part] as usize,
+    })
 }
 
 // The stretch that was located; the empty one at the table's start where the call is refused.
-fn slice(order: &[u16], found: Located) -> &[u16]
+fn slice(order: &[u16], found: Result<Located, Refusal>) -> &[u16]
     requires { start_of found + count_of found ≤ length order.now }
     ensures { SliceOf order.entry (start_of found) (count_of found) result }
 {
     match found {
-        Located::At(start, count) => &order[start..start + count],
-        Located::Refused(_) => &order[..0],
+        Ok(at) => &order[at.start..at.start + at.count],
+        Err(_) => &order[..0],
     }
 }

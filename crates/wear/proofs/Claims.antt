@@ -7,12 +7,11 @@ use mathlib.Core.Logic.{◌↔◌}
 use mathlib.Core.List.{List, [], ◌∷◌}
 use lib.ListN.{length, get_or}
 use Rattle.tree.specs.declared.Refusal.{Refusal}
-use Rattle.tree.specs.declared.Outcome.{Outcome}
-use Rattle.tree.specs.declared.Outcome.TheVariants.{Accepted, Refused}
+use Rattle.std.proofs.Common.{Ok, Err}
 use Rattle.tree.specs.Scan.{least_from, least, tabulate_from, tabulate}
 use Rattle.tree.specs.Tree.{parent, climb, is_ancestor, root_of, Tree}
 use Rattle.tree.specs.Tests.{verdict, limit, sheet_tests}
-use Rattle.tree.specs.Verdict.{Verdict, verdict_of}
+use Rattle.tree.specs.Verdict.{Verdict, Outcome, verdict_of}
 use Rattle.tree.proofs.Answers.{filled-own, filled-kept}
 use Rattle.tree.proofs.Rows.{cell-tabulate}
 use Rattle.tree.proofs.Verdicts.{accepted-case}
@@ -27,13 +26,13 @@ module _ {s before counts totals : List ℕ} {r : Outcome} {totals' after : List
   v = totals_verdict s before counts totals
 
   -- with buffers that fit, a sheet is accepted exactly if it is one rooted tree of 1 to 16,384 parts
-  pub totals-accepts : totals_unfit s before counts totals ≡ 0 → (r ≡ Accepted) ↔ (Tree s × (length s ≤ limit))
+  pub totals-accepts : totals_unfit s before counts totals ≡ 0 → (r ≡ Ok tt) ↔ (Tree s × (length s ≤ limit))
   totals-accepts fits =
       let same : verdict_of r ≡ verdict (sheet_tests s 0) = g.answered.outcome ∙ ap (λ (b : ℕ). verdict (sheet_tests s b)) fits in
       (λ e. (accepted-exactly s).0 (sym same ∙ ap verdict_of e), λ t. accepted-case r (same ∙ (accepted-exactly s).1 t))
 
   -- "Fill buffer 10 with 64-bit totals, one per part: the sum of counts over all parts it carries. The root's total is the sum of the list"
-  pub totals-fill : r ≡ Accepted
+  pub totals-fill : r ≡ Ok tt
       → ((u : ℕ) → u < length s → get_or totals' u 0 ≡ sum_where (is_ancestor s u) (count_at counts) (length s)) × (get_or totals' (root_of s) 0 ≡ sum_of counts)
   unfolding total totals_of
   totals-fill e =
@@ -42,7 +41,7 @@ module _ {s before counts totals : List ℕ} {r : Outcome} {totals' after : List
       (λ u h. ap (λ (l : List ℕ). get_or l u 0) own ∙ cell-tabulate (total s counts) (length s) u h, g.whole accepts)
 
   -- "No refusal alters another buffer"
-  pub totals-keep : {why : Refusal} → r ≡ Refused why → totals' ≡ totals
+  pub totals-keep : {why : Refusal} → r ≡ Err why → totals' ≡ totals
   totals-keep e = g.cells ∙ sym (filled-kept v _ _ _ _ (stage-no g.answered e))
 
 -- no total of an accepted sheet passes 64 bits, whatever the counts of 32 bits are

@@ -5,10 +5,9 @@ use mathlib.Core.Path.{◌≡◌, sym, ap, ◌∙◌}
 use mathlib.Core.List.{List}
 use lib.ListN.{length, get_or, replicate}
 use Rattle.tree.specs.declared.Refusal.{Refusal}
-use Rattle.tree.specs.declared.Outcome.{Outcome}
-use Rattle.tree.specs.declared.Outcome.TheVariants.{Accepted, Refused}
+use Rattle.std.proofs.Common.{Ok, Err}
 use Rattle.tree.specs.Tree.{root_of}
-use Rattle.tree.specs.Verdict.{accepted, verdict_of}
+use Rattle.tree.specs.Verdict.{accepted, verdict_of, Outcome}
 use Rattle.tree.specs.Buffers.{wear_fits, first_unfit}
 use Rattle.tree.specs.Ready.{Ready}
 use Rattle.tree.proofs.Verdicts.{not-both}
@@ -46,27 +45,27 @@ whole-root {s} {work} {counts} g =
 module _ (s before counts totals : List ℕ) {r : Outcome} {after : List ℕ}
     (tested : OrderGives s (first_unfit (wear_fits (length s) (length counts) (length totals))) before r after) where
   -- a refused call leaves the totals as they were
-  pub totals-refused : {why : Refusal} → r ≡ Refused why → TotalsGive s before counts totals r totals after
-  totals-refused e =
+  pub totals-refused : {why : Refusal} {q : Outcome} → r ≡ Err why → q ≡ Err why → TotalsGive s before counts totals q totals after
+  totals-refused e same =
       let v = totals_verdict s before counts totals in
       let refuses = sym tested.outcome ∙ ap verdict_of e in
       record {
-        answered = record { outcome = tested.outcome; work = tested.refusal _ _ refuses };
+        answered = record { outcome = ap verdict_of (same ∙ sym e) ∙ tested.outcome; work = tested.refusal _ _ refuses };
         cells = filled-kept v _ _ _ _ refuses;
         whole = λ accepts. absurd (not-both accepts refuses);
       }
 
-  pub totals-granted : r ≡ Accepted → Granted s before counts totals
+  pub totals-granted : r ≡ Ok tt → Granted s before counts totals
   totals-granted e = granted s before counts totals (sym tested.outcome ∙ ap verdict_of e)
 
   -- an accepted one fills them
-  pub totals-filled : {totals' after' : List ℕ} → r ≡ Accepted → totals' ≡ totals_of s counts → after' ≡ replicate (length before) 0
-      → TotalsGive s before counts totals r totals' after'
+  pub totals-filled : {totals' after' : List ℕ} → r ≡ Ok tt → totals' ≡ totals_of s counts → after' ≡ replicate (length before) 0
+      → TotalsGive s before counts totals (Ok tt) totals' after'
   totals-filled {totals'} e own clear =
       let v = totals_verdict s before counts totals in
       let accepts : v ≡ accepted = sym tested.outcome ∙ ap verdict_of e in
       record {
-        answered = record { outcome = tested.outcome; work = clear ∙ sym (work-accepted v before accepts) };
+        answered = record { outcome = sym accepts; work = clear ∙ sym (work-accepted v before accepts) };
         cells = own ∙ filled-own v _ _ accepts;
         whole = λ _. ap (λ (l : List ℕ). get_or l (root_of s) 0) own ∙ whole-root (totals-granted e);
       }

@@ -1,8 +1,7 @@
 -- Wear by assembly (document 02, 2026-02): the total of a part, from the counts and the sheet alone, and what the call gives from its inputs alone.
 -- Assumes nothing.
 use Rattle.std.specs.Prelude.{ℕ, ◌≡◌, List, length, get_or}
-use Rattle.tree.specs.declared.Outcome.{Outcome}
-use Rattle.tree.specs.Verdict.{Verdict, accepted}
+use Rattle.tree.specs.Verdict.{Verdict, accepted, Outcome}
 use Rattle.tree.specs.Scan.{tabulate}
 use Rattle.tree.specs.Tree.{is_ancestor, root_of}
 use Rattle.tree.specs.Tests.{Test, verdict, sheet_tests}

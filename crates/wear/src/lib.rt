@@ -10,7 +10,7 @@ ghost use Rattle.std.specs.Prelude.{◌≡◌};
 ghost use Rattle.tree.specs.Buffers.{wear_fits, first_unfit};
 ghost use Rattle.wear.specs.Totals.{TotalsGive};
 
-use tree::Outcome;
+use tree::Refusal;
 
 // The numbers of the buffers.
 const COUNTS: usize = 9;
@@ -18,19 +18,21 @@ const COUNTS: usize = 9;
 const TOTALS: usize = 10;
 
 // Fills `totals` with the total of each part, from `counts`; both have a cell for each part. A refused call leaves `totals` as it was. No total passes 64 bits.
-pub fn totals(parents: &[u16], work: &mut [u16], counts: &[u32], totals: &mut [u64]) -> Outcome
+pub fn totals(
+    parents: &[u16],
+    work: &mut [u16],
+    counts: &[u32],
+    totals: &mut [u64],
+) -> Result<(), Refusal>
     ensures { TotalsGive parents.now work.old counts.now totals.old
         result totals.new work.new }
 {
     let unfit = first_unfit(parents.len(), counts.len(), totals.len());
-    let r = tables::admit_bottom_up(parents, unfit, work);
-    let Outcome::Accepted = r else {
-        return r;
-    };
+    tables::admit_bottom_up(parents, unfit, work)?;
     sums::widen(counts, totals);
     sums::add_up(parents, work, totals);
     cells::clear(work);
-    r
+    Ok(())
 }
 
 // The lowest of counts and totals that does not fit, by their lengths, for a sheet of n parts; 0 where both fit.

@@ -10,11 +10,8 @@ pub(crate) fn widen(counts: &[u32], totals: &mut [u64])
     requires { length totals.old ≡ length counts.now }
     ensures { (totals.new ≡ counts.now) × ((v : ℕ) → v < length counts.now → get_or counts.now v 0 ≤ count_limit) }
 {
-    let n = counts.len();
-    let mut v = 0;
-    while v < n {
+    for v in 0..counts.len() {
         totals[v] = counts[v] as u64;
-        v += 1;
     }
 }
 
@@ -25,10 +22,8 @@ pub(crate) fn add_up(parents: &[u16], edges: &[u16], totals: &mut [u64])
     ensures { totals.new ≡ totals_of parents.now totals.old }
 {
     let n = parents.len();
-    let mut i = 0;
-    while i + 1 < n {
+    for i in 0..n - 1 {
         add(edges[2 * n + i] as usize, edges[i] as usize, totals);
-        i += 1;
     }
 }
 

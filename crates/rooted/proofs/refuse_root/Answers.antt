@@ -62,13 +62,13 @@ returns-then-off-n c =
 pub returns-then-n-root : goal.returns-then-n-root
 returns-then-n-root c =
     refused-no_root _ _ (entries (goal.at.returns-then-n-root c).Else-off-n)
-      (rw c.root-root.ensures at c.if-n-root.true)
+    (rw c.root-root.ensures at c.if-n-root.true)
 
 pub returns : goal.returns
 returns c =
     let shift = c.args.shift in
     refused-second_root shift _ (entries (goal.at.returns c).Else-off-n) (below (goal.at.returns c).Else-n-root) (some c)
-      ∙ ap (λ k. refused 6 (shift + k)) (sym (second c))
+    ∙ ap (λ k. refused 6 (shift + k)) (sym (second c))
 
 pub overflow_add-result-2 : goal.overflow_add-result-2
 overflow_add-result-2 c =

@@ -38,7 +38,7 @@ admit-requires c =
 pub returns-in_err-admit : goal.returns-in_err-admit
 returns-in_err-admit c =
     let tested = found-tested c.args.parents.now (unfit (goal.at.returns-in_err-admit c).Start) _ (found (goal.at.returns-in_err-admit c).After-lower-unfit)
-        c.admit.ensures in
+    c.admit.ensures in
     stage-refused tested _ c.in_err-admit.was (handed_on c.from_residual.result c.from_residual.ensures.1)
 
 pub tables-found-requires : goal.tables-found-requires

@@ -7,50 +7,52 @@ use mathlib.Core.List.{List}
 use lib.ListN.{length, get_or, replicate}
 use Rattle.tree.specs.Buffers.{wear_fits, first_unfit}
 use Rattle.tree.specs.Verdict.{verdict_of}
+use Rattle.tree.proofs.Verdicts.{handed_on}
 use Rattle.tables.specs.Check.{OrderGives}
 use Rattle.wear.specs.Totals.{count_limit, totals_of}
 use Rattle.wear.proofs.Giving.{Granted, totals-refused, totals-granted, totals-filled}
 use Rattle.wear.proofs.totals.Goals as goal
-use Rattle.wear.proofs.totals.Goals.{In-Accepted, After-admit_bottom_up-r}
+use Rattle.wear.proofs.totals.Goals.{In_ok-admit_bottom_up, After-admit_bottom_up}
 
 -- the answer to the tests, of the call's own buffers
-tested : (c : After-admit_bottom_up-r) →
+tested : (c : After-admit_bottom_up) →
     OrderGives c.args.parents.now (first_unfit (wear_fits (length c.args.parents.now) (length c.args.counts.now) (length c.args.totals.now)))
     c.args.work.now
-    c.admit_bottom_up-r.result c.admit_bottom_up-r.new.work
+    c.admit_bottom_up.result c.admit_bottom_up.new.work
 tested c =
     let a = c.args in
-    subst (λ (u : ℕ). OrderGives a.parents.now u a.work.now c.admit_bottom_up-r.result c.admit_bottom_up-r.new.work)
-    c.first_unfit-unfit.ensures c.admit_bottom_up-r.ensures
+    subst (λ (u : ℕ). OrderGives a.parents.now u a.work.now c.admit_bottom_up.result c.admit_bottom_up.new.work)
+    c.first_unfit-unfit.ensures c.admit_bottom_up.ensures
 
 -- what is known of an accepted call
-grants : (c : In-Accepted) → Granted c.args.parents.now c.args.work.now c.args.counts.now c.args.totals.now
+grants : (c : In_ok-admit_bottom_up) → Granted c.args.parents.now c.args.work.now c.args.counts.now c.args.totals.now
 grants c =
     let tested :
     (OrderGives c.args.parents.now (first_unfit (wear_fits (length c.args.parents.now) (length c.args.counts.now) (length c.args.totals.now)))
     c.args.work.now
-    c.admit_bottom_up-r.result c.admit_bottom_up-r.new.work) =
-    (subst (λ (u : ℕ). OrderGives c.args.parents.now u c.args.work.now c.admit_bottom_up-r.result c.admit_bottom_up-r.new.work)
-    c.first_unfit-unfit.ensures c.admit_bottom_up-r.ensures) in
+    c.admit_bottom_up.result c.admit_bottom_up.new.work) =
+    (subst (λ (u : ℕ). OrderGives c.args.parents.now u c.args.work.now c.admit_bottom_up.result c.admit_bottom_up.new.work)
+    c.first_unfit-unfit.ensures c.admit_bottom_up.ensures) in
     let a = c.args in
-    totals-granted a.parents.now a.work.now a.counts.now a.totals.now tested c.in-Accepted.is
+    totals-granted a.parents.now a.work.now a.counts.now a.totals.now tested c.in_ok-admit_bottom_up.was
 
-pub returns-in_default : goal.returns-in_default
-returns-in_default c =
+pub returns-in_err-admit_bottom_up : goal.returns-in_err-admit_bottom_up
+returns-in_err-admit_bottom_up c =
     let a = c.args in
-    totals-refused a.parents.now a.work.now a.counts.now a.totals.now (tested (goal.at.returns-in_default c).After-admit_bottom_up-r) c.in_default.is
+    totals-refused a.parents.now a.work.now a.counts.now a.totals.now (tested (goal.at.returns-in_err-admit_bottom_up c).After-admit_bottom_up) c.in_err-admit_bottom_up.was
+    (handed_on c.from_residual.result c.from_residual.ensures.1)
 
 pub widen-requires : goal.widen-requires
-widen-requires c = let g = grants (goal.at.widen-requires c).In-Accepted in omega arith
+widen-requires c = let g = grants (goal.at.widen-requires c).In_ok-admit_bottom_up in omega arith
 
 pub add_up-requires : goal.add_up-requires
 add_up-requires c =
-    let g = grants (goal.at.add_up-requires c).In-Accepted in
-    let same = c.admit_bottom_up-r.auto.work in
+    let g = grants (goal.at.add_up-requires c).In_ok-admit_bottom_up in
+    let same = c.admit_bottom_up.auto.work in
     let wide = c.widen.ensures in
     let edges =
-    (tested (goal.at.add_up-requires c).After-admit_bottom_up-r).edges
-    (sym (tested (goal.at.add_up-requires c).After-admit_bottom_up-r).outcome ∙ ap verdict_of c.in-Accepted.is) in
+    (tested (goal.at.add_up-requires c).After-admit_bottom_up).edges
+    (sym (tested (goal.at.add_up-requires c).After-admit_bottom_up).outcome ∙ ap verdict_of c.in_ok-admit_bottom_up.was) in
     let ready = g.ready in
     let counted = g.count_length in (
       record { tree = ready.tree; most = ready.small },
@@ -63,6 +65,6 @@ add_up-requires c =
 pub returns : goal.returns
 returns c =
     let a = c.args in
-    let same = c.admit_bottom_up-r.auto.work in
-    totals-filled a.parents.now a.work.now a.counts.now a.totals.now (tested (goal.at.returns c).After-admit_bottom_up-r) c.in-Accepted.is
+    let same = c.admit_bottom_up.auto.work in
+    totals-filled a.parents.now a.work.now a.counts.now a.totals.now (tested (goal.at.returns c).After-admit_bottom_up) c.in_ok-admit_bottom_up.was
     (c.add_up.ensures ∙ ap (totals_of a.parents.now) c.widen.ensures.0) (c.clear.ensures ∙ ap (λ k. replicate k 0) same)

@@ -15,4 +15,3 @@ abbrev pub invariant-loop-i : goal.invariant-loop-i
 invariant-loop-i l =
     (l.i ≤ length l.question / 2) × (length l.answer ≡ answer_cells (length l.question))
     × Same l.answer 0 (each_answer (answer_by (rule_of l.route) (own l.parents)) l.question) 0 (l.i * answer_width)
-

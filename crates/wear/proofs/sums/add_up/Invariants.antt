@@ -7,6 +7,3 @@ use Rattle.wear.proofs.sums.add_up.Given as goal
 
 abbrev pub invariant-loop-i : goal.invariant-loop-i
 invariant-loop-i l = Adding l.parents l.edges l.initial.totals l.totals l.i
-
-abbrev pub decreases-loop-i : goal.decreases-loop-i
-decreases-loop-i l = length l.parents - l.i

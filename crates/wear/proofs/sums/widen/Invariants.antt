@@ -9,6 +9,3 @@ use Rattle.wear.proofs.sums.widen.Given as goal
 abbrev pub invariant-loop-v : goal.invariant-loop-v
 invariant-loop-v l = (l.v ≤ length l.counts) × (length l.totals ≡ length l.initial.totals)
     × ((j : ℕ) → j < l.v → (get_or l.totals j 0 ≡ get_or l.counts j 0) × (get_or l.counts j 0 ≤ count_limit))
-
-abbrev pub decreases-loop-v : goal.decreases-loop-v
-decreases-loop-v l = length l.counts - l.v
