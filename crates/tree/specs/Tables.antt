@@ -5,6 +5,7 @@ use Rattle.tree.specs.Labels.{label_table}
 use Rattle.tree.specs.Tour.{tour_table}
 use Rattle.tree.specs.Lifts.{lift_table}
 use Rattle.tree.specs.Preorder.{preorder}
+use Rattle.tree.specs.declared.Lent as refs
 
 -- "Every call that is lent tables is lent all four": the fourth, `order`, "holds the parts in preorder"
 pub record Lent : Type 0 where
@@ -13,6 +14,11 @@ pub record Lent : Type 0 where
   pub tour : List ℕ
   pub lift : List ℕ
   pub order : List ℕ
+
+-- what a call is lent to read, from the cells behind its references
+abbrev pub lent_in : refs.Lent → Lent
+lent_in l =
+    record { parents = l.parents.now; label = l.label.now; tour = l.tour.now; lift = l.lift.now; order = l.order.now }
 
 -- what a call is lent, from the cells behind its references
 abbrev pub lent_by : (parents label tour lift order : List ℕ) → Lent

@@ -2,8 +2,12 @@
 
 #![tactic(auto)]
 
+mod own;
+
 ghost use Rattle.std.specs.Prelude.{◌≡◌};
 ghost use Rattle.tree.specs.Verdict.{number_of, place_of};
+
+pub use own::OwnTables;
 
 // Why a call is refused: a case for each row of document 01's table of numbers, in its order. A case that can arise at
 // more than one place holds the place, which is as wide as a length. It is the `Err` of each call; one that is accepted gives
@@ -34,6 +38,16 @@ pub enum Refusal {
     NoCommonAncestor,
     // 12 "illegible", at a line
     MalformedLine(usize),
+}
+
+// A sheet and the four tables that are lent with it, to be read.
+#[derive(Clone, Copy)]
+pub struct Lent<'a> {
+    pub parents: &'a [u16],
+    pub label: &'a [u16],
+    pub tour: &'a [u16],
+    pub lift: &'a [u16],
+    pub order: &'a [u16],
 }
 
 // Where the subtree of a part stands: the cell of the order table at which it begins, and the count of its cells.
