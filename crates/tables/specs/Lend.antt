@@ -1,6 +1,7 @@
 -- What the calls that are lent the tables give, from their inputs alone: the one that fills them, and the one that compares them.
 -- Assumes nothing.
-use Rattle.std.specs.Prelude.{ℕ, ◌≡◌, List}
+use Rattle.std.specs.Prelude.{ℕ, ◌≡◌, List, Result}
+use Rattle.tree.specs.declared.Refusal.{Refusal}
 use Rattle.tree.specs.Verdict.{Verdict, Outcome}
 use Rattle.tree.specs.Tests.{verdict, sheet_tests, lent_tests}
 use Rattle.tree.specs.Buffers.{filled}
@@ -26,5 +27,5 @@ pub record BuildGives (t : Lent) (before : List ℕ) (r : Outcome) (label' tour'
   pub order : order' ≡ filled (build_verdict t before) (preorder t.parents) t.order
 
 -- comparing: what every call answers first that is lent tables to read, of a call whose lowest further buffer that does not fit is `further`, or 0
-abbrev pub LentGives : Lent → ℕ → List ℕ → Outcome → List ℕ → Type 0
+abbrev pub LentGives : {A : Type 0} → Lent → ℕ → List ℕ → Result A Refusal → List ℕ → Type 0
 LentGives t further before = Answered (lent_tests t (unfit_of t before further)) before

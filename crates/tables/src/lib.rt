@@ -7,17 +7,17 @@ mod fill;
 mod fits;
 mod stale;
 
-ghost use Rattle.std.specs.Prelude.{◌≡◌, ◌≤◌, ◌<◌, length};
+ghost use Rattle.std.specs.Prelude.{◌≡◌, ◌≤◌, ◌<◌, length, IfOk};
 ghost use Rattle.tree.specs.Tree.{root_of};
 ghost use Rattle.tree.specs.Verdict.{verdict_of};
 ghost use Rattle.tree.specs.Tests.{limit, verdict, size_tests};
 ghost use Rattle.tree.specs.Buffers.{work_cells};
-ghost use Rattle.tree.specs.Tables.{lent_by};
+ghost use Rattle.tree.specs.Tables.{lent_by, lent_in};
 ghost use Rattle.tree.specs.Ready.{Ready, NumbersIn};
 ghost use Rattle.tables.specs.Check.{Tested, SheetGives, CheckGives, OrderGives};
 ghost use Rattle.tables.specs.Lend.{BuildGives, LentGives};
 
-use tree::Refusal;
+use tree::{Lent, OwnTables, Refusal};
 
 // Checks the sheet `parents`: accepted if it is one rooted tree of at most 16,384 parts, else refused with document 01's number
 // and place. `work` has four cells for each part. It is all zero afterwards, or as it was after refusals 1 to 3.
@@ -80,49 +80,40 @@ pub fn build(
 
 // Compares the four tables with the sheet `parents`: tests 1 to 8. The tables are stale at the first cell that is not the sheet's own, counted
 // from 0, the tables end to end. `work` is as after `check`.
-pub fn compare(
-    parents: &[u16],
-    label: &[u16],
-    tour: &[u16],
-    lift: &[u16],
-    order: &[u16],
-    work: &mut [u16],
-) -> Result<(), Refusal>
-    ensures { LentGives (lent_by parents.now label.now tour.now lift.now order.now)
-        0 work.old result work.new }
+pub fn compare(lent: Lent<'_>, work: &mut [u16]) -> Result<(), Refusal>
+    ensures { LentGives (lent_in lent.entry) 0 work.old result work.new }
 {
-    admit_lent(parents, label, tour, lift, order, 0, work)
+    admit_lent(lent, 0, work)?;
+    Ok(())
 }
 
 // The same for every call that is lent tables to read: tests 1 to 8, of a call whose lowest further buffer that does not fit is `further`, or 0. It is for the
-// calls of other crates to begin with, and no call of a user's: the further buffers are not lent to it, so that number is taken as it is given.
-pub fn admit_lent(
-    parents: &[u16],
-    label: &[u16],
-    tour: &[u16],
-    lift: &[u16],
-    order: &[u16],
+// calls of other crates to begin with, and no call of a user's: the further buffers are not lent to it, so that number is taken as it is given. What it accepts is
+// the sheet with its own tables, as a type that says so.
+pub fn admit_lent<'a>(
+    lent: Lent<'a>,
     further: usize,
     work: &mut [u16],
-) -> Result<(), Refusal>
-    ensures { LentGives (lent_by parents.now label.now tour.now lift.now order.now)
-        further work.old result work.new }
+) -> Result<OwnTables<'a>, Refusal>
+    ensures gives { LentGives (lent_in lent.entry) further work.old result work.new }
+    ensures same { IfOk result (λ sheet. sheet ≡ lent.entry.parents.now) }
 {
-    let n = parents.len();
+    let n = lent.parents.len();
     let own = fits::first_unfit(
         n,
-        label.len(),
-        tour.len(),
-        lift.len(),
-        order.len(),
+        lent.label.len(),
+        lent.tour.len(),
+        lent.lift.len(),
+        lent.order.len(),
         4 * n,
         work.len(),
     );
     let unfit = fits::lower(own, further);
-    admit(parents, unfit, work)?;
-    let found = stale::tables(parents, label, tour, lift, order, work);
+    admit(lent.parents, unfit, work)?;
+    let found = stale::tables(lent, work);
     cells::clear(work);
-    found
+    found?;
+    Ok(OwnTables::new(lent))
 }
 
 // The root of an accepted sheet; of any other, the lowest part that names itself, or the number of parts where there is none.

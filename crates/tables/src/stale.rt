@@ -13,24 +13,23 @@ ghost use Rattle.tree.specs.Ready.{Ready, Columns, TourOwn};
 ghost use Rattle.cells.specs.Cells.{AgreeAt};
 ghost use Rattle.tree.specs.Verdict.{verdict_of};
 ghost use Rattle.tree.specs.Tests.{verdict, stale_table};
-ghost use Rattle.tree.specs.Tables.{lent_by};
+ghost use Rattle.tree.specs.Tables.{lent_in};
 ghost use Rattle.tables.specs.Sections.{Fits};
 
-use tree::Refusal;
+use tree::{Lent, Refusal};
 
 // Test 8: the four tables end to end.
-pub(crate) fn tables(
-    parents: &[u16],
-    label: &[u16],
-    tour: &[u16],
-    lift: &[u16],
-    order: &[u16],
-    work: &mut [u16],
-) -> Result<(), Refusal>
-    requires { Fits (lent_by parents.now label.now tour.now lift.now order.now) work.old }
-    ensures { verdict_of result ≡ verdict
-        (stale_table (lent_by parents.now label.now tour.now lift.now order.now) ∷ []) }
+pub(crate) fn tables(lent: Lent<'_>, work: &mut [u16]) -> Result<(), Refusal>
+    requires { Fits (lent_in lent) work.old }
+    ensures { verdict_of result ≡ verdict (stale_table (lent_in lent.entry) ∷ []) }
 {
+    let Lent {
+        parents,
+        label,
+        tour,
+        lift,
+        order,
+    } = lent;
     let at = self::label(parents, label, work);
     if at < label.len() {
         return Err(Refusal::StaleTable(at));
