@@ -19,7 +19,7 @@ ghost use Rattle.wear.specs.Totals.{TotalsGive};
 ghost use Rattle.lca.specs.Returned.{number_in, value_in, outcome_of, located_count, Returned};
 ghost use Rattle.lca.specs.Version.{version};
 
-use tree::{Located, Numbered, Refusal};
+use tree::{Lent, Located, Numbered, Refusal};
 
 // The version of the interface, as LCA_VERSION in include/lca.h has it.
 const VERSION: u32 = 4;
@@ -77,7 +77,14 @@ pub extern "C" fn lca_compare(
         0 work.old r work.new)
         result value.new }
 {
-    let r = tables::compare(parents, label, tour, lift, order, work);
+    let lent = Lent {
+        parents,
+        label,
+        tour,
+        lift,
+        order,
+    };
+    let r = tables::compare(lent, work);
     returned(r, value)
 }
 
@@ -95,10 +102,17 @@ pub extern "C" fn lca_pairs_by_labels(
     value: &mut u64,
 ) -> u32
     ensures { Returned outcome_of
-        (λ r. PairsGive by_labels (asked_by parents.now label.now tour.now lift.now order.now work.old question.now answer.old)
+        (λ r. PairsGive by_labels (asked_by (lent_by parents.now label.now tour.now lift.now order.now) work.old question.now answer.old)
         r work.new answer.new) result value.new }
 {
-    let r = routes::pairs_by_labels(parents, label, tour, lift, order, work, question, answer);
+    let lent = Lent {
+        parents,
+        label,
+        tour,
+        lift,
+        order,
+    };
+    let r = routes::pairs_by_labels(lent, work, question, answer);
     returned(r, value)
 }
 
@@ -116,10 +130,17 @@ pub extern "C" fn lca_pairs_by_tour(
     value: &mut u64,
 ) -> u32
     ensures { Returned outcome_of
-        (λ r. PairsGive by_tour (asked_by parents.now label.now tour.now lift.now order.now work.old question.now answer.old)
+        (λ r. PairsGive by_tour (asked_by (lent_by parents.now label.now tour.now lift.now order.now) work.old question.now answer.old)
         r work.new answer.new) result value.new }
 {
-    let r = routes::pairs_by_tour(parents, label, tour, lift, order, work, question, answer);
+    let lent = Lent {
+        parents,
+        label,
+        tour,
+        lift,
+        order,
+    };
+    let r = routes::pairs_by_tour(lent, work, question, answer);
     returned(r, value)
 }
 
@@ -137,10 +158,17 @@ pub extern "C" fn lca_pairs_by_lifts(
     value: &mut u64,
 ) -> u32
     ensures { Returned outcome_of
-        (λ r. PairsGive by_lifts (asked_by parents.now label.now tour.now lift.now order.now work.old question.now answer.old)
+        (λ r. PairsGive by_lifts (asked_by (lent_by parents.now label.now tour.now lift.now order.now) work.old question.now answer.old)
         r work.new answer.new) result value.new }
 {
-    let r = routes::pairs_by_lifts(parents, label, tour, lift, order, work, question, answer);
+    let lent = Lent {
+        parents,
+        label,
+        tour,
+        lift,
+        order,
+    };
+    let r = routes::pairs_by_lifts(lent, work, question, answer);
     returned(r, value)
 }
 
@@ -158,10 +186,17 @@ pub extern "C" fn lca_list(
     value: &mut u64,
 ) -> u32
     ensures { Returned outcome_of
-        (λ r. ListGives (asked_by parents.now label.now tour.now lift.now order.now work.old question.now answer.old)
+        (λ r. ListGives (asked_by (lent_by parents.now label.now tour.now lift.now order.now) work.old question.now answer.old)
         r work.new answer.new) result value.new }
 {
-    let r = routes::list(parents, label, tour, lift, order, work, question, answer);
+    let lent = Lent {
+        parents,
+        label,
+        tour,
+        lift,
+        order,
+    };
+    let r = routes::list(lent, work, question, answer);
     returned(r, value)
 }
 
@@ -180,12 +215,17 @@ pub extern "C" fn lca_trail(
     value: &mut u64,
 ) -> u32
     ensures { Returned traced_of
-        (λ r. TrailGives (asked_by parents.now label.now tour.now lift.now order.now work.old question.now answer.old)
+        (λ r. TrailGives (asked_by (lent_by parents.now label.now tour.now lift.now order.now) work.old question.now answer.old)
         trail.old r work.new answer.new trail.new) result value.new }
 {
-    let r = routes::trail(
-        parents, label, tour, lift, order, work, question, answer, trail,
-    );
+    let lent = Lent {
+        parents,
+        label,
+        tour,
+        lift,
+        order,
+    };
+    let r = routes::trail(lent, work, question, answer, trail);
     traced(r, value)
 }
 
@@ -206,7 +246,14 @@ pub extern "C" fn lca_subtree(
         (λ r. LocateGives (lent_by parents.now label.now tour.now lift.now order.now)
         part work.old r work.new × (start.new ≡ start_of r)) result value.new }
 {
-    let r = subtrees::locate(parents, label, tour, lift, order, work, part);
+    let lent = Lent {
+        parents,
+        label,
+        tour,
+        lift,
+        order,
+    };
+    let r = subtrees::locate(lent, work, part);
     located(r, start, value)
 }
 

@@ -24,7 +24,7 @@ use Rattle.tree.proofs.Lcas.{lca-found, lca-only}
 use Rattle.tree.proofs.Lists.{ends-listed, ends-lca}
 use Rattle.tree.proofs.Answers.{filled-own, filled-kept}
 use Rattle.tree.proofs.Questions.{question-parts}
-use Rattle.tree.proofs.Stages.{answered-by, stage-no, stage-yes}
+use Rattle.tree.proofs.Stages.{stage-no, stage-yes}
 use Rattle.tree.proofs.Pairs.{question-pair, answer_at_lem}
 use Rattle.tree.proofs.Owning.{owned-is}
 use Rattle.tree.proofs.ByLabels.{labels-lca}
@@ -61,33 +61,33 @@ pair-answered route {s} {cells} question {i} pair h stored =
     subst (IsAnswer s (left_of question i) (right_of question i)) (sym is)
     (rule-answer t (rule_of route) pair.left pair.right (rule-lca route t _ _ pair.left pair.right))
 
-module _ (route : Route) (a : Asked) {r : Outcome} {after : List ℕ} (given : Admitted a.lent a.work a.question (pairs_unfit a) r after) where
+module _ {A : Type 0} (route : Route) (a : Asked) {r : Result A Refusal} {after : List ℕ} (given : Admitted a.lent a.work a.question (pairs_unfit a) r after) where
   -- a refused call leaves the answer as it was
   pub pairs-refused : {why : Refusal} {q : Outcome} → r ≡ Err why → q ≡ Err why → PairsGive (rule_of route) a q after a.answer
   pairs-refused {why} e same =
       let no : pairs_verdict a ≡ refused (number_of why) (place_of why) = stage-no given e in
       record {
-        answered = answered-by given (same ∙ sym e);
+        answered = record { outcome = ap verdict_of same ∙ sym (ap verdict_of e) ∙ given.outcome; work = given.work };
         answer = filled-kept (pairs_verdict a) _ _ _ _ no;
         answers = λ yes. absurd (not-both yes no);
       }
 
   -- an accepted one gives each pair's
-  pub pairs-answered : {answer' : List ℕ} → r ≡ Ok tt → answer' ≡ each_answer (answer_by (rule_of route) (own a.lent.parents)) a.question
+  pub pairs-answered : {sheet : A} {answer' : List ℕ} → r ≡ Ok sheet → answer' ≡ each_answer (answer_by (rule_of route) (own a.lent.parents)) a.question
       → PairsGive (rule_of route) a (Ok tt) after answer'
-  pairs-answered {answer'} e stored =
+  pairs-answered {answer' = answer'} e stored =
       let yes : pairs_verdict a ≡ accepted = stage-yes given e in
       let ready = answerable a.lent a.work a.question (pairs_unfit a) yes in
       let same = owned-is a.lent (pairs_unfit a) ready.owned in
       record {
-        answered = answered-by given (sym e);
+        answered = record { outcome = sym (ap verdict_of e) ∙ given.outcome; work = given.work };
         answer = stored ∙ ap (λ (t : Lent). each_answer (answer_by (rule_of route) t) a.question) (sym same) ∙ filled-own (pairs_verdict a) _ _ yes;
         answers = λ _ i h. pair-answered route a.question (question-pair ready.listed i (omega arith)) h stored;
       }
 
 -- ---- a trail
 
-module _ (a : Asked) (rows : List ℕ) {r : Outcome} {after : List ℕ} (given : Admitted a.lent a.work a.question (trail_unfit a rows) r after) where
+module _ {A : Type 0} (a : Asked) (rows : List ℕ) {r : Result A Refusal} {after : List ℕ} (given : Admitted a.lent a.work a.question (trail_unfit a rows) r after) where
   -- a refused call leaves the answer and the trail as they were
   pub trail-refused : {why : Refusal} {q : Result ℕ Refusal} → r ≡ Err why → q ≡ Err why → TrailGives a rows q after a.answer rows
   trail-refused {why} {q} e is =
@@ -102,13 +102,13 @@ module _ (a : Asked) (rows : List ℕ) {r : Outcome} {after : List ℕ} (given :
       }
 
   -- an accepted one gives the trail of the question's pair
-  pub trail-answered : {count : ℕ} {answer' rows' : List ℕ} → r ≡ Ok tt
+  pub trail-answered : {count : ℕ} {sheet : A} {answer' rows' : List ℕ} → r ≡ Ok sheet
       → count ≡ lifts (own a.lent.parents) (left_of a.question 0) (right_of a.question 0)
       → answer' ≡ by_lifts (own a.lent.parents) (left_of a.question 0) (right_of a.question 0) ∷ []
       → rows' ≡ trail_buffer (trail (own a.lent.parents) (left_of a.question 0) (right_of a.question 0))
       → length a.question ≡ 2
       → TrailGives a rows (Ok count) after answer' rows'
-  trail-answered {count} {answer'} {rows'} e lifted answered stored two =
+  trail-answered {answer' = answer'} e lifted answered stored two =
       let s = a.lent.parents in
       let u = left_of a.question 0 in
       let w = right_of a.question 0 in
@@ -148,24 +148,24 @@ ends-carrier {s} {question} listed =
     let pair = ends-pair listed in
     lca-only t question _ listed.some parts (ends-lca t question _ listed.some parts (tour-lca t _ _ pair.left pair.right))
 
-module _ (a : Asked) {r : Outcome} {after : List ℕ} (given : Admitted a.lent a.work a.question (list_unfit a) r after) where
+module _ {A : Type 0} (a : Asked) {r : Result A Refusal} {after : List ℕ} (given : Admitted a.lent a.work a.question (list_unfit a) r after) where
   pub list-refused : {why : Refusal} {q : Outcome} → r ≡ Err why → q ≡ Err why → ListGives a q after a.answer
   list-refused {why} e same =
       let no : list_verdict a ≡ refused (number_of why) (place_of why) = stage-no given e in
       record {
-        answered = answered-by given (same ∙ sym e);
+        answered = record { outcome = ap verdict_of same ∙ sym (ap verdict_of e) ∙ given.outcome; work = given.work };
         answer = filled-kept (list_verdict a) _ _ _ _ no;
         carrier = λ yes. absurd (not-both yes no);
       }
 
-  pub list-answered : {answer' : List ℕ} → r ≡ Ok tt → answer' ≡ lca a.lent.parents a.question ∷ [] → ListGives a (Ok tt) after answer'
-  list-answered {answer'} e stored =
+  pub list-answered : {sheet : A} {answer' : List ℕ} → r ≡ Ok sheet → answer' ≡ lca a.lent.parents a.question ∷ [] → ListGives a (Ok tt) after answer'
+  list-answered {answer' = answer'} e stored =
       let s = a.lent.parents in
       let yes : list_verdict a ≡ accepted = stage-yes given e in
       let listed = (answerable a.lent a.work a.question (list_unfit a) yes).listed in
       let is : get_or answer' 0 0 ≡ lca s a.question = ap (λ (l : List ℕ). get_or l 0 0) stored in
       record {
-        answered = answered-by given (sym e);
+        answered = record { outcome = sym (ap verdict_of e) ∙ given.outcome; work = given.work };
         answer = stored ∙ filled-own (list_verdict a) _ _ yes;
         carrier = λ _. subst (Lca s a.question) (sym is)
             (lca-found listed.small.tree a.question listed.some (question-parts s a.question listed.part));

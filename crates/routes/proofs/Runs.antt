@@ -9,6 +9,7 @@ use borrow.Fn.Kinds.{Out, Dens, ended_of}
 use Rattle.std.proofs.Common.{Result}
 use Rattle.tree.specs.declared.Refusal.{Refusal}
 use Rattle.tree.specs.Verdict.{Outcome}
+use Rattle.tree.specs.Tables.{lent_in}
 use Rattle.routes.specs.Answers.{Asked, asked_by}
 use Rattle.routes.proofs.pairs_by_labels.Reads as by-labels
 use Rattle.routes.proofs.pairs_by_tour.Reads as by-tour
@@ -21,23 +22,23 @@ use Rattle.routes.proofs.trail.Reads as by-trail
 -- ---- the calls that are lent a sheet, four tables, work, a question and an answer: pairs by each route, and a list
 
 -- a run of the call that promises this
-pub record Run (promises : Out 8 list.ps list.r) : Type 0 where
-  pub lifetimes : Lfts 8
+pub record Run (promises : Out 4 list.ps list.r) : Type 0 where
+  pub lifetimes : Lfts 4
   pub passed : Dens lifetimes list.ps
   pub result : Outcome
-  pub left : AtExit (ended_of 8 list.ps list.r) lifetimes
+  pub left : AtExit (ended_of 4 list.ps list.r) lifetimes
   pub kept : promises lifetimes passed result left
 
-module _ {promises : Out 8 list.ps list.r} (run : Run promises) where
+module _ {promises : Out 4 list.ps list.r} (run : Run promises) where
   -- what it was lent
   abbrev pub asked : Asked
   asked =
       let a = run.passed in
-      asked_by a.0.now a.1.0.now a.1.1.0.now a.1.1.1.0.now a.1.1.1.1.0.now a.1.1.1.1.1.0.now a.1.1.1.1.1.1.0.now a.1.1.1.1.1.1.1.0.now
+      asked_by (lent_in a.0) a.1.0.now a.1.1.0.now a.1.1.1.0.now
 
   -- the answer's cells afterwards
   abbrev pub answers : List ℕ
-  answers = run.left.1.1.1.1.1.1.1.0.now
+  answers = run.left.1.1.1.0.now
 
 -- runs of `pairs_by_labels`, `pairs_by_tour`, `pairs_by_lifts` and `list`
 abbrev pub LabelsRun : Type 0
@@ -56,10 +57,10 @@ ListRun = Run by-list.Learnt
 
 -- a run of `trail`
 pub record TrailRun : Type 0 where
-  pub lifetimes : Lfts 9
+  pub lifetimes : Lfts 5
   pub passed : Dens lifetimes trail.ps
   pub result : Result ℕ Refusal
-  pub left : AtExit (ended_of 9 trail.ps trail.r) lifetimes
+  pub left : AtExit (ended_of 5 trail.ps trail.r) lifetimes
   pub kept : by-trail.Learnt lifetimes passed result left
 
 module _ (run : TrailRun) where
@@ -67,15 +68,15 @@ module _ (run : TrailRun) where
   abbrev pub traced : Asked
   traced =
       let a = run.passed in
-      asked_by a.0.now a.1.0.now a.1.1.0.now a.1.1.1.0.now a.1.1.1.1.0.now a.1.1.1.1.1.0.now a.1.1.1.1.1.1.0.now a.1.1.1.1.1.1.1.0.now
+      asked_by (lent_in a.0) a.1.0.now a.1.1.0.now a.1.1.1.0.now
 
   -- the trail's cells before and afterwards
   abbrev pub rows_before : List ℕ
-  rows_before = run.passed.1.1.1.1.1.1.1.1.0.now
+  rows_before = run.passed.1.1.1.1.0.now
 
   abbrev pub rows_after : List ℕ
-  rows_after = run.left.1.1.1.1.1.1.1.1.0.now
+  rows_after = run.left.1.1.1.1.0.now
 
   -- the answer's cell afterwards
   abbrev pub carrier_cell : List ℕ
-  carrier_cell = run.left.1.1.1.1.1.1.1.0.now
+  carrier_cell = run.left.1.1.1.0.now

@@ -29,6 +29,7 @@ use Rattle.tree.proofs.Rows.{length-tabulate, cell-tabulate}
 use Rattle.tree.proofs.Lcas.{lca-found}
 use Rattle.tree.proofs.Answers.{work-accepted}
 use Rattle.tree.proofs.Acceptance.{accepted-tree}
+use Rattle.tree.specs.declared.Lent as lent_refs
 use Rattle.routes.specs.declared.Route.{Route}
 use Rattle.routes.specs.declared.Route.TheVariants.{Labels, Tour, Lifts}
 use Rattle.routes.specs.Rules.{rule_of}
@@ -53,26 +54,28 @@ abbrev mut_ref : List ℕ → MutBor (List ℕ)
 mut_ref l = record { ref_ptr = (0, 0); ghost_name = 0; now = l }
 
 -- lifetimes of the references; a contract says nothing of them
-abbrev lifetimes : Lfts 8
-lifetimes = ([], ([], ([], ([], ([], ([], ([], ([], tt))))))))
+abbrev lifetimes : Lfts 4
+lifetimes = ([], ([], ([], ([], tt))))
 
 module _ (s : List ℕ) where
   -- references to the sheet, its tables, clear work and a question, with those after them: what a call is passed, and what it leaves
   abbrev Refs : Type 0 → Type 0
-  Refs A = Bor (List ℕ) × (Bor (List ℕ) × (Bor (List ℕ) × (Bor (List ℕ) × (Bor (List ℕ) × (MutBor (List ℕ) × (Bor (List ℕ) × A))))))
+  Refs A = lent_refs.Lent × (MutBor (List ℕ) × (Bor (List ℕ) × A))
 
   abbrev refs : {A : Type 0} → List ℕ → A → Refs A
-  refs question more = (ref s, (ref (label_table s), (ref (tour_table s), (ref (lift_table s), (ref (preorder s), (mut_ref (clear s), (ref question, more)))))))
+  refs question more =
+      let tables = record { parents = ref s; label = ref (label_table s); tour = ref (tour_table s); lift = ref (lift_table s); order = ref (preorder s) } in
+      (tables, (mut_ref (clear s), (ref question, more)))
 
   -- of pairs and of a list
   abbrev passed : List ℕ → ℕ → Dens lifetimes list.ps
   passed question cells = refs question (mut_ref (zeros cells), tt)
 
-  abbrev left : List ℕ → List ℕ → AtExit (ended_of 8 list.ps list.r) lifetimes
+  abbrev left : List ℕ → List ℕ → AtExit (ended_of 4 list.ps list.r) lifetimes
   left question answers = refs question (mut_ref answers, tt)
 
   -- a run of such a call that is accepted, where what it promises holds
-  abbrev run_of : {promises : Out 8 list.ps list.r} (question : List ℕ) (cells : ℕ) (answers : List ℕ)
+  abbrev run_of : {promises : Out 4 list.ps list.r} (question : List ℕ) (cells : ℕ) (answers : List ℕ)
       → promises lifetimes (passed question cells) (Ok tt) (left question answers) → Run promises
   run_of question cells answers kept = record {
     lifetimes = lifetimes;

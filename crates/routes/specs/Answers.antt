@@ -6,7 +6,7 @@ use Rattle.tree.specs.Verdict.{Verdict, accepted, Outcome, lifts_of}
 use Rattle.tree.specs.Tests.{asked_tests}
 use Rattle.tree.specs.Buffers.{pairs_fits, trail_fits, list_fits, first_unfit, filled}
 use Rattle.tree.specs.Lca.{Lca, lca}
-use Rattle.tree.specs.Tables.{Lent, lent_by}
+use Rattle.tree.specs.Tables.{Lent}
 use Rattle.tree.specs.Trail.{trail, by_lifts, lifts, trail_buffer, lift_count}
 use Rattle.tree.specs.Lending.{unfit_of, asked_verdict}
 use Rattle.tree.specs.Answered.{Answered}
@@ -24,10 +24,9 @@ pub record Asked : Type 0 where
   pub question : List ℕ
   pub answer : List ℕ
 
--- the same, from the cells behind its references
-abbrev pub asked_by : (parents label tour lift order work question answer : List ℕ) → Asked
-asked_by parents label tour lift order work question answer =
-    record { lent = lent_by parents label tour lift order; work = work; question = question; answer = answer }
+-- the same, from the cells behind the references to the others
+abbrev pub asked_by : Lent → (work question answer : List ℕ) → Asked
+asked_by lent work question answer = record { lent = lent; work = work; question = question; answer = answer }
 
 -- ---- pairs
 

@@ -1,15 +1,15 @@
 // What a question is tested for before it is answered.
 
-ghost use Rattle.std.specs.Prelude.{◌≡◌};
+ghost use Rattle.std.specs.Prelude.{◌≡◌, IfOk};
 ghost use Rattle.tree.specs.Verdict.{verdict_of};
 ghost use Rattle.tree.specs.Tests.{verdict, question_tests};
 ghost use Rattle.tree.specs.Buffers.{pairs_fits, trail_fits, list_fits, first_unfit};
-ghost use Rattle.tree.specs.Tables.{lent_by};
+ghost use Rattle.tree.specs.Tables.{lent_in};
 ghost use Rattle.tree.specs.Nodes.{Small};
 ghost use Rattle.routes.specs.Answers.{Admitted};
 
 use crate::ANSWER_CELLS;
-use tree::Refusal;
+use tree::{Lent, OwnTables, Refusal};
 
 // The numbers of the buffers.
 const QUESTION: usize = 5;
@@ -18,22 +18,19 @@ const ANSWER: usize = 6;
 
 const TRAIL: usize = 7;
 
-// Tests 1 to 11, of a call whose lowest buffer of 5 to 7 that does not fit is `unfit`, or 0.
-pub(crate) fn admit(
-    parents: &[u16],
-    label: &[u16],
-    tour: &[u16],
-    lift: &[u16],
-    order: &[u16],
+// Tests 1 to 11, of a call whose lowest buffer of 5 to 7 that does not fit is `unfit`, or 0. What is accepted is the sheet with its own tables.
+pub(crate) fn admit<'a>(
+    lent: Lent<'a>,
     work: &mut [u16],
     question: &[u16],
     unfit: usize,
-) -> Result<(), Refusal>
-    ensures { Admitted (lent_by parents.now label.now tour.now lift.now order.now)
-        work.old question.now unfit result work.new }
+) -> Result<OwnTables<'a>, Refusal>
+    ensures gives { Admitted (lent_in lent.entry) work.old question.now unfit result work.new }
+    ensures same { IfOk result (λ sheet. sheet ≡ lent.entry.parents.now) }
 {
-    tables::admit_lent(parents, label, tour, lift, order, unfit, work)?;
-    test_question(parents, question)
+    let sheet = tables::admit_lent(lent, unfit, work)?;
+    test_question(lent.parents, question)?;
+    Ok(sheet)
 }
 
 // Tests 9 to 11. Test 11 is never met: the root carries every part.

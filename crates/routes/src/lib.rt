@@ -9,10 +9,11 @@ mod ask;
 
 ghost use Rattle.tree.specs.Routes.{by_labels, by_tour};
 ghost use Rattle.tree.specs.Trail.{by_lifts};
+ghost use Rattle.tree.specs.Tables.{lent_in};
 ghost use Rattle.routes.specs.Rules.{rule_of};
 ghost use Rattle.routes.specs.Answers.{asked_by, PairsGive, TrailGives, ListGives};
 
-use tree::Refusal;
+use tree::{Lent, Refusal};
 
 // The three routes.
 #[derive(Clone, Copy)]
@@ -27,149 +28,95 @@ pub const ANSWER_CELLS: usize = 3;
 
 // The answer to each pair by labels: `question` lists the pairs, `answer` has three cells for each.
 pub fn pairs_by_labels(
-    parents: &[u16],
-    label: &[u16],
-    tour: &[u16],
-    lift: &[u16],
-    order: &[u16],
+    lent: Lent<'_>,
     work: &mut [u16],
     question: &[u16],
     answer: &mut [u16],
 ) -> Result<(), Refusal>
     ensures { PairsGive by_labels
-        (asked_by parents.now label.now tour.now lift.now order.now work.old question.now answer.old)
+        (asked_by (lent_in lent.entry) work.old question.now answer.old)
         result work.new answer.new }
 {
-    pairs(
-        Route::Labels,
-        parents,
-        label,
-        tour,
-        lift,
-        order,
-        work,
-        question,
-        answer,
-    )
+    pairs(Route::Labels, lent, work, question, answer)
 }
 
 // The same by the tour.
 pub fn pairs_by_tour(
-    parents: &[u16],
-    label: &[u16],
-    tour: &[u16],
-    lift: &[u16],
-    order: &[u16],
+    lent: Lent<'_>,
     work: &mut [u16],
     question: &[u16],
     answer: &mut [u16],
 ) -> Result<(), Refusal>
     ensures { PairsGive by_tour
-        (asked_by parents.now label.now tour.now lift.now order.now work.old question.now answer.old)
+        (asked_by (lent_in lent.entry) work.old question.now answer.old)
         result work.new answer.new }
 {
-    pairs(
-        Route::Tour,
-        parents,
-        label,
-        tour,
-        lift,
-        order,
-        work,
-        question,
-        answer,
-    )
+    pairs(Route::Tour, lent, work, question, answer)
 }
 
 // The same by lifts.
 pub fn pairs_by_lifts(
-    parents: &[u16],
-    label: &[u16],
-    tour: &[u16],
-    lift: &[u16],
-    order: &[u16],
+    lent: Lent<'_>,
     work: &mut [u16],
     question: &[u16],
     answer: &mut [u16],
 ) -> Result<(), Refusal>
     ensures { PairsGive by_lifts
-        (asked_by parents.now label.now tour.now lift.now order.now work.old question.now answer.old)
+        (asked_by (lent_in lent.entry) work.old question.now answer.old)
         result work.new answer.new }
 {
-    pairs(
-        Route::Lifts,
-        parents,
-        label,
-        tour,
-        lift,
-        order,
-        work,
-        question,
-        answer,
-    )
+    pairs(Route::Lifts, lent, work, question, answer)
 }
 
 // The same by the route named.
 pub fn pairs(
     route: Route,
-    parents: &[u16],
-    label: &[u16],
-    tour: &[u16],
-    lift: &[u16],
-    order: &[u16],
+    lent: Lent<'_>,
     work: &mut [u16],
     question: &[u16],
     answer: &mut [u16],
 ) -> Result<(), Refusal>
     ensures { PairsGive (rule_of route)
-        (asked_by parents.now label.now tour.now lift.now order.now work.old question.now answer.old)
+        (asked_by (lent_in lent.entry) work.old question.now answer.old)
         result work.new answer.new }
 {
     let unfit = ask::pairs_unfit(question.len(), answer.len());
-    ask::admit(parents, label, tour, lift, order, work, question, unfit)?;
-    answer::pairs(route, parents, label, tour, lift, question, answer);
+    let sheet = ask::admit(lent, work, question, unfit)?;
+    answer::pairs(route, &sheet, question, answer);
     Ok(())
 }
 
 // The trail of one pair, of two cells, in the 64 cells of `rows`: each lift's row, and 65535 after them. The carrier is the answer's one cell; the
 // count of the lifts is given with it.
 pub fn trail(
-    parents: &[u16],
-    label: &[u16],
-    tour: &[u16],
-    lift: &[u16],
-    order: &[u16],
+    lent: Lent<'_>,
     work: &mut [u16],
     question: &[u16],
     answer: &mut [u16],
     rows: &mut [u16],
 ) -> Result<usize, Refusal>
     ensures { TrailGives
-        (asked_by parents.now label.now tour.now lift.now order.now work.old question.now answer.old)
+        (asked_by (lent_in lent.entry) work.old question.now answer.old)
         rows.old result work.new answer.new rows.new }
 {
     let unfit = ask::trail_unfit(question.len(), answer.len(), rows.len());
-    ask::admit(parents, label, tour, lift, order, work, question, unfit)?;
-    Ok(answer::trail(parents, label, lift, question, answer, rows))
+    let sheet = ask::admit(lent, work, question, unfit)?;
+    Ok(answer::trail(&sheet, question, answer, rows))
 }
 
 // The carrier of a list of parts, in the answer's one cell: that of the first and the last of them in preorder.
 pub fn list(
-    parents: &[u16],
-    label: &[u16],
-    tour: &[u16],
-    lift: &[u16],
-    order: &[u16],
+    lent: Lent<'_>,
     work: &mut [u16],
     question: &[u16],
     answer: &mut [u16],
 ) -> Result<(), Refusal>
     ensures { ListGives
-        (asked_by parents.now label.now tour.now lift.now order.now work.old question.now answer.old)
+        (asked_by (lent_in lent.entry) work.old question.now answer.old)
         result work.new answer.new }
 {
     let unfit = ask::list_unfit(answer.len());
-    ask::admit(parents, label, tour, lift, order, work, question, unfit)?;
-    answer::list(parents, label, tour, question, answer);
+    let sheet = ask::admit(lent, work, question, unfit)?;
+    answer::list(&sheet, question, answer);
     Ok(())
 }

@@ -77,7 +77,7 @@ find-found {s} part h c =
 abbrev last_test : List ℕ → ℕ → List Test
 last_test s part = node_out_of_range s 0 (part ∷ []) ∷ []
 
-module _ (t : Lent) (before : List ℕ) (part : ℕ) {r : Outcome} {after : List ℕ} (given : LentGives t 0 before r after) where
+module _ {A : Type 0} (t : Lent) (before : List ℕ) (part : ℕ) {r : Result A Refusal} {after : List ℕ} (given : LentGives t 0 before r after) where
   abbrev s : List ℕ
   s = t.parents
 
@@ -92,7 +92,7 @@ module _ (t : Lent) (before : List ℕ) (part : ℕ) {r : Outcome} {after : List
       }
 
   -- where they are accepted, the part decides
-  pub locate-found : {found : Result Located Refusal} → r ≡ Ok tt → FindGives s part found → LocateGives t part before found after
+  pub locate-found : {sheet : A} {found : Result Located Refusal} → r ≡ Ok sheet → FindGives s part found → LocateGives t part before found after
   locate-found e f =
       let on : part_verdict t before part ≡ part_test s part = accepted-on (lent_tests t (unfit_of t before 0)) (last_test s part) (stage-yes given e) in
       record {
@@ -100,10 +100,6 @@ module _ (t : Lent) (before : List ℕ) (part : ℕ) {r : Outcome} {after : List
         start = f.start ∙ ap (λ (v : Verdict). start_by v s part) (sym on);
         count = f.count ∙ ap (λ (v : Verdict). count_by_verdict v s part) (sym on);
       }
-
-  -- and the tables are the sheet's own
-  pub locate-owned : r ≡ Ok tt → Owned t 0
-  locate-owned e = lent-owned t before 0 (stage-yes given e)
 
 -- ---- the stretch
 

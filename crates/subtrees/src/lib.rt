@@ -5,58 +5,38 @@
 #![tactic(auto)]
 
 ghost use Rattle.std.specs.Prelude.{◌≡◌, ◌+◌, ◌≤◌, length};
-ghost use Rattle.tree.specs.Labels.{label_table};
-ghost use Rattle.tree.specs.Nodes.{Small};
-ghost use Rattle.tree.specs.Tables.{lent_by};
+ghost use Rattle.tree.specs.Tables.{lent_in};
 ghost use Rattle.tree.specs.Verdict.{start_of, count_of};
 ghost use Rattle.subtrees.specs.Stretch.{SliceOf, FindGives, LocateGives, SubtreeGives};
 
-use tree::{Located, Refusal};
+use tree::{Lent, Located, OwnTables, Refusal};
 
 // Where the parts that `part` carries stand in the order table: the first of their cells, and how many there are; or why the call is refused.
-pub fn locate(
-    parents: &[u16],
-    label: &[u16],
-    tour: &[u16],
-    lift: &[u16],
-    order: &[u16],
-    work: &mut [u16],
-    part: usize,
-) -> Result<Located, Refusal>
-    ensures { LocateGives (lent_by parents.now label.now tour.now lift.now order.now)
-        part work.old result work.new }
+pub fn locate(lent: Lent<'_>, work: &mut [u16], part: usize) -> Result<Located, Refusal>
+    ensures { LocateGives (lent_in lent.entry) part work.old result work.new }
 {
-    tables::compare(parents, label, tour, lift, order, work)?;
-    find(parents, label, part)
+    let sheet = tables::admit_lent(lent, 0, work)?;
+    find(&sheet, part)
 }
 
 // These cells themselves, never a copy: the stretch of `order` that begins with the part. It has no cell where the call is refused, and else at least one;
 // `locate` says of the same inputs why.
-pub fn subtree<'a>(
-    parents: &[u16],
-    label: &[u16],
-    tour: &[u16],
-    lift: &[u16],
-    order: &'a [u16],
-    work: &mut [u16],
-    part: usize,
-) -> &'a [u16]
-    ensures { SubtreeGives (lent_by parents.now label.now tour.now lift.now order.now) order.entry
-        part work.old result work.new }
+pub fn subtree<'a>(lent: Lent<'a>, work: &mut [u16], part: usize) -> &'a [u16]
+    ensures { SubtreeGives (lent_in lent.entry) lent.entry.order part work.old result work.new }
 {
-    let found = locate(parents, label, tour, lift, order, work, part);
-    slice(order, found)
+    let found = locate(lent, work, part);
+    slice(lent.order, found)
 }
 
 // Test 10 of the part, and where its subtree stands: PREORDER and SIZE of an accepted sheet say it.
-fn find(parents: &[u16], label: &[u16], part: usize) -> Result<Located, Refusal>
-    requires { Small parents.now × (label.now ≡ label_table parents.now) }
-    ensures { FindGives parents.now part result }
+fn find(sheet: &OwnTables<'_>, part: usize) -> Result<Located, Refusal>
+    ensures { FindGives sheet.now part result }
 {
-    let n = parents.len();
-    if n <= part {
+    if !sheet.has_part(part) {
         return Err(Refusal::NodeOutOfRange(0));
     }
+    let n = sheet.len();
+    let label = sheet.label();
     Ok(Located {
         start: label[part] as usize - 1,
         count: label[n + part] as usize,

@@ -1,6 +1,6 @@
 // A sheet with its own tables, as a type: what the calls that answer go by, once the lent tables have been compared with the sheet. A contract sees the sheet.
 
-ghost use Rattle.std.specs.Prelude.{◌≡◌, ℕ, List, length};
+ghost use Rattle.std.specs.Prelude.{◌≡◌, ℕ, List, ltb, length};
 ghost use Rattle.tree.specs.Labels.{label_table};
 ghost use Rattle.tree.specs.Tour.{tour_table};
 ghost use Rattle.tree.specs.Lifts.{lift_table};
@@ -40,6 +40,14 @@ impl<'a> OwnTables<'a> {
         ensures { result ≡ length self.now }
     {
         self.lent.parents.len()
+    }
+
+    // Whether a number is one of its parts: it is one rooted tree of at most 16,384.
+    pub fn has_part(&self, part: usize) -> bool
+        ensures value { result ≡ ltb part (length self.now) }
+        ensures small { Small self.now }
+    {
+        part < self.lent.parents.len()
     }
 
     // The sheet.

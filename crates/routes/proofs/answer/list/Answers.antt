@@ -9,26 +9,20 @@ use Rattle.tree.specs.Routes.{by_tour}
 use Rattle.routes.proofs.Giving.{one-stored, ends-pair, ends-carrier}
 use Rattle.routes.proofs.answer.list.Goals as goal
 
-pub ends-ends-requires : goal.ends-ends-requires
-ends-ends-requires c = (c.requires.0, c.requires.2)
-
 pub by_tour-requires : goal.by_tour-requires
 by_tour-requires c =
     let listed = c.requires.0 in
     let pair = ends-pair listed in
-    let (first, last) = c.ends-ends.ensures in (
-      record {
-        small = listed.small;
-        left = omega (arith, first, last, pair.left, pair.right);
-        right = omega (arith, first, last, pair.left, pair.right);
-      },
-      c.requires.2,
-      c.requires.3,
-    )
+    let (first, last) = c.ends-ends.ensures in
+    record {
+      small = listed.small;
+      left = omega (arith, first, last, pair.left, pair.right);
+      right = omega (arith, first, last, pair.left, pair.right);
+    }
 
 pub returns : goal.returns
 returns c =
     let ends = c.ends-ends in
-    let both : by_tour (own c.args.parents.now) ends.result.first ends.result.last ≡ lca c.args.parents.now c.args.question.now =
+    let both : by_tour (own c.args.sheet.now) ends.result.first ends.result.last ≡ lca c.args.sheet.now c.args.question.now =
     rw (ends.ensures.0, ends.ensures.1) (ends-carrier c.requires.0) in
     one-stored c.args.answer.now _ c.requires.1 ∙ ap (λ x. x ∷ []) (c.by_tour.ensures.is ∙ both)

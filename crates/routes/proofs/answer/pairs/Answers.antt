@@ -29,16 +29,13 @@ pair-requires c =
         right = rw c.node-y.ensures (listed.part _ (omega arith));
       },
       omega arith,
-      c.requires.2,
-      c.requires.3,
-      c.requires.4,
     )
 
 pub loop-i-preserved : goal.loop-i-preserved
 loop-i-preserved c =
     let l = c.loop-i in
     let a = c.args in
-    let f = answer_by (rule_of a.route) (own a.parents.now) in
+    let f = answer_by (rule_of a.route) (own a.sheet.now) in
     let stored = rw (c.node-x.ensures, c.node-y.ensures) at c.pair.ensures in (
       omega arith,
       ap length stored ∙ stored-length l.answer (l.i * answer_width) _ ∙ l.invariant.1,
@@ -50,7 +47,7 @@ pub returns : goal.returns
 returns c =
     let l = c.loop-i in
     let a = c.args in
-    let f = answer_by (rule_of a.route) (own a.parents.now) in
+    let f = answer_by (rule_of a.route) (own a.sheet.now) in
     let all = each-row-length (λ x y. answer_cell (f x y)) answer_width a.question.now in
     let long = l.invariant.1 in
     let end : l.i * answer_width ≡ length (each_answer f a.question.now) = omega arith in

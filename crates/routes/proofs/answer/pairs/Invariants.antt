@@ -14,4 +14,4 @@ use Rattle.routes.proofs.answer.pairs.Given as goal
 abbrev pub invariant-loop-i : goal.invariant-loop-i
 invariant-loop-i l =
     (l.i ≤ length l.question / 2) × (length l.answer ≡ answer_cells (length l.question))
-    × Same l.answer 0 (each_answer (answer_by (rule_of l.route) (own l.parents)) l.question) 0 (l.i * answer_width)
+    × Same l.answer 0 (each_answer (answer_by (rule_of l.route) (own l.sheet)) l.question) 0 (l.i * answer_width)

@@ -18,13 +18,13 @@ node-y-requires c = omega (arith, c.requires.1)
 
 pub trail-end-requires : goal.trail-end-requires
 trail-end-requires c =
-    (rw (c.node-x.ensures, c.node-y.ensures) c.requires.0, c.requires.4, c.requires.5, c.fill_all.auto.cells ∙ c.requires.3)
+    (rw (c.node-x.ensures, c.node-y.ensures) c.requires.0, c.fill_all.auto.cells ∙ c.requires.3)
 
 pub returns : goal.returns
 returns c =
     let r = rw (c.node-x.ensures, c.node-y.ensures) at c.trail-end.ensures in
     let blank = c.fill_all.ensures ∙ ap (λ k. replicate k no_cell) c.requires.3 in
-    let short = trail_fits_lem c.args.parents.now c.requires.0.small.most _ _ in (
+    let short = trail_fits_lem c.args.sheet.now c.requires.0.small.most _ _ in (
       trail-count r,
       one-stored c.args.answer.now _ c.requires.2 ∙ ap (λ x. x ∷ []) (trail-end r).is,
       r.cells ∙ rw blank (stored-trail _ short),
