@@ -1,4 +1,4 @@
--- `labels::along::differ_mask` meets its contract: no bit differs, or the difference is above 0.
+-- `labels::step::differ_mask` meets its contract: no bit differs, or the difference is above 0.
 -- Assumes nothing.
 use Prim.Native.Nat.{ℕ, ◌+◌, ◌*◌, ◌/◌, ◌%◌, ◌<◌}
 use native.Mathlib.Nat.{mod-eq_of_lt}
@@ -9,7 +9,7 @@ use borrow.Author.Tests.{eq-eqb, ne_eqb}
 use lib.Bits.{xor_self}
 use Rattle.bits.proofs.Ones.{xor-zero}
 use Rattle.tree.proofs.Scans.{by_equal}
-use Rattle.labels.proofs.along.differ_mask.Goals as goal
+use Rattle.labels.proofs.step.differ_mask.Goals as goal
 
 -- a one that is shifted up by 16 places is not shifted out of 32
 not-lost : (x : ℕ) → x < 65536 → (x + 65535) / 65536 * 65536 % 4294967296 ≡ (x + 65535) / 65536 * 65536

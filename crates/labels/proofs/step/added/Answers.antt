@@ -1,4 +1,4 @@
--- `labels::along::added` meets its contract: the bit is masked with all bits or with none.
+-- `labels::step::added` meets its contract: the bit is masked with all bits or with none.
 -- Assumes nothing.
 use native.Mathlib.Omega.{arith}
 use native.Mathlib.Nat.{mod-eq_of_lt}
@@ -6,7 +6,7 @@ use mathlib.Core.Path.{◌∙◌}
 use borrow.Author.Tests.{eq-eqb, ne_eqb}
 use lib.Bits.{and_zero_r, and_mask}
 use Rattle.tree.proofs.Scans.{by_equal}
-use Rattle.labels.proofs.along.added.Goals as goal
+use Rattle.labels.proofs.step.added.Goals as goal
 
 pub returns : goal.returns
 returns c =
