@@ -3,10 +3,13 @@
 
 #![tactic(auto)]
 
-ghost use Rattle.std.specs.Prelude.{◌≡◌, ℕ, ◌+◌, ◌≤◌, ◌<◌, leb, length, get_or, replicate, position};
+ghost use Rattle.std.specs.Prelude.{◌≡◌, true, ℕ, ◌+◌, ◌≤◌, ◌<◌, leb, length, get_or, replicate, position};
 ghost use Rattle.tree.specs.Scan.{least};
 ghost use Rattle.tree.specs.Sections.{Same};
 ghost use Rattle.cells.specs.Cells.{Filled, Copied, Agree};
+
+// No node: what a cell holds in whose place there is none.
+pub const NONE: u16 = 65535;
 
 // Stores `value` in the `count` cells from `first` on.
 pub fn fill(cells: &mut [u16], first: usize, count: usize, value: u16)
@@ -43,7 +46,7 @@ pub fn agree(a: &[u16], at: usize, b: &[u16], start: usize, count: usize) -> usi
     requires { (at + count ≤ length a.now) × (start + count ≤ length b.now) }
     ensures { Agree a.now at b.now start count result }
 {
-    if differences(a, at, b, start, count) == 0 {
+    if same(a, at, b, start, count) {
         return count;
     }
     for i in 0..count {
@@ -54,16 +57,28 @@ pub fn agree(a: &[u16], at: usize, b: &[u16], start: usize, count: usize) -> usi
     count
 }
 
-// The bits in which any two cells of the stretches differ: 0 only where they are equal. It stops at no cell, so that several are compared at once.
-fn differences(a: &[u16], at: usize, b: &[u16], start: usize, count: usize) -> u16
+// Whether all those cells are equal: no bit differs in any two. It stops at no cell, so that several are compared at once.
+fn same(a: &[u16], at: usize, b: &[u16], start: usize, count: usize) -> bool
     requires { (at + count ≤ length a.now) × (start + count ≤ length b.now) }
-    ensures { result ≡ 0 → Same a.now at b.now start count }
+    ensures { result ≡ true → Same a.now at b.now start count }
 {
     let mut bits = 0;
     for i in 0..count {
         bits |= a[at + i] ^ b[start + i];
     }
-    bits
+    bits == 0
+}
+
+// Whether the `count` cells from `first` on all hold `value`. It stops at no cell either.
+pub fn all_hold(cells: &[u16], first: usize, count: usize, value: u16) -> bool
+    requires { first + count ≤ length cells.now }
+    ensures { result ≡ true → (i : ℕ) → i < count → get_or cells.now (first + i) 0 ≡ value }
+{
+    let mut bits = 0;
+    for i in 0..count {
+        bits |= cells[first + i] ^ value;
+    }
+    bits == 0
 }
 
 // The first cell that is `bound` or more; the number of cells where there is none.

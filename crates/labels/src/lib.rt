@@ -18,9 +18,6 @@ ghost use Rattle.labels.specs.Heads.{head_place};
 
 use step::{Ascendant, Level, Step};
 
-// No cell.
-const NONE: u16 = 65535;
-
 // The nodes in preorder, which are the order table, into the first n cells of work.
 pub fn order(parents: &[u16], label: &[u16], work: &mut [u16])
     requires { Columns parents.now label.now work.old 1 }
@@ -119,7 +116,7 @@ fn heads(parents: &[u16], root: usize, label: &[u16], work: &mut [u16])
     ensures { ColumnIn parents.now work.new 5 }
 {
     let n = parents.len();
-    cells::fill(work, n, n, NONE);
+    cells::fill(work, n, n, cells::NONE);
     work[n - 1 + label[3 * n + root] as usize] = root as u16;
     for v in 0..n {
         let k = label[3 * n + v] as usize;

@@ -15,14 +15,14 @@ pub(crate) fn hold<S: Step>(parents: &[u16], root: usize, label: &[u16], work: &
 {
     let n = parents.len();
     label[S::COLUMN * n + root] == S::top(n as u16)
-        && differences::<S>(parents, label, 0, root) == 0
-        && differences::<S>(parents, label, root + 1, n) == 0
+        && follow::<S>(parents, label, 0, root)
+        && follow::<S>(parents, label, root + 1, n)
 }
 
-// The bits in which any cell of the nodes from `first` on, up to `end`, differs from the parent's with what the node adds. The root is none of them.
-fn differences<S: Step>(parents: &[u16], label: &[u16], first: usize, end: usize) -> usize
+// Whether the cell of each node from `first` on, up to `end`, is the parent's with what the node adds: no bit differs in any. The root is none of the nodes.
+fn follow<S: Step>(parents: &[u16], label: &[u16], first: usize, end: usize) -> bool
     requires { Steps parents.now label.now first end }
-    ensures { result ≡ 0 → Follows parents.now label.now S.COLUMN (S.more parents.now label.now) first end }
+    ensures { result ≡ true → Follows parents.now label.now S.COLUMN (S.more parents.now label.now) first end }
 {
     let column = S::COLUMN * parents.len();
     let mut bits: usize = 0;
@@ -30,5 +30,5 @@ fn differences<S: Step>(parents: &[u16], label: &[u16], first: usize, end: usize
         let more = S::more(parents, label, v) as usize;
         bits |= label[column + v] as usize ^ (label[column + parents[v] as usize] as usize + more);
     }
-    bits
+    bits == 0
 }

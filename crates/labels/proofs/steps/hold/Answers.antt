@@ -27,14 +27,14 @@ offset_bounds-label-COLUMN g c = let r = room g (goal.at.offset_bounds-label-COL
 pub bounds-label-COLUMN : goal.bounds-label-COLUMN
 bounds-label-COLUMN g c = let r = room g (goal.at.bounds-label-COLUMN g c).After-COLUMN in omega (arith, c.requires.0.cells)
 
-pub differences-requires : goal.differences-requires
-differences-requires g c = steps_low c.requires
+pub follow-requires : goal.follow-requires
+follow-requires g c = steps_low c.requires
 
 pub overflow_add-root : goal.overflow_add-root
 overflow_add-root g c = let d = root-cells c.requires in omega (arith, d.node, c.requires.0.ready.small)
 
-pub differences-requires-then-differences-eq0 : goal.differences-requires-then-differences-eq0
-differences-requires-then-differences-eq0 g c = steps_high c.requires
+pub follow-requires-then-follow : goal.follow-requires-then-follow
+follow-requires-then-follow g c = steps_high c.requires
 
 -- the root's cell is right, and those of the nodes below it
 low : (g : _) (c : Joined-label-COLUMN g) → c.if-label-COLUMN.value ≡ true
@@ -42,13 +42,13 @@ low : (g : _) (c : Joined-label-COLUMN g) → c.if-label-COLUMN.value ≡ true
     × Follows c.args.parents.now c.args.label.now g.S.Step.COLUMN (g.S.Step.more c.args.parents.now c.args.label.now) 0 c.args.root
 low g c e =
     elim c.if-label-COLUMN.branch [
-      | then-label-COLUMN w ↦ (w.if-label-COLUMN.true, w.differences.ensures (eqb-true _ _ (sym w.value-is ∙ e)))
+      | then-label-COLUMN w ↦ (w.if-label-COLUMN.true, w.follow.ensures (sym w.value-is ∙ e))
       | else-label-COLUMN w ↦ absurd (w.if-label-COLUMN.false (eqb-true _ _ (sym w.value-is ∙ e)))
     ]
 
-pub returns-then-differences-eq0 : goal.returns-then-differences-eq0
-returns-then-differences-eq0 g c =
+pub returns-then-follow : goal.returns-then-follow
+returns-then-follow g c =
     λ e.
-    let below = low g (goal.at.returns-then-differences-eq0 g c).Joined-label-COLUMN c.if-differences-eq0.true in
+    let below = low g (goal.at.returns-then-follow g c).Joined-label-COLUMN c.if-follow.true in
     let top = rw c.COLUMN.ensures at below.0 in
-    steps-own g.S.Step.laws c.requires (top ∙ c.top.ensures) below.1 (c.differences-then-differences-eq0.ensures (eqb-true _ _ e))
+    steps-own g.S.Step.laws c.requires (top ∙ c.top.ensures) below.1 (c.follow-then-follow.ensures e)

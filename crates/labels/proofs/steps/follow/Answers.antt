@@ -1,9 +1,9 @@
--- `labels::steps::differences` meets its contract: where no bit is gathered, the column follows the parents' to each node before v.
+-- `labels::steps::follow` meets its contract: where no bit is gathered, the column follows the parents' to each node before v.
 -- Assumes nothing.
 use native.Mathlib.Omega.{arith}
 use lib.ListN.{length}
 use Rattle.labels.proofs.Stepping.{follows-none, follows-step, step-at, column-room}
-use Rattle.labels.proofs.steps.differences.Goals as goal
+use Rattle.labels.proofs.steps.follow.Goals as goal
 
 pub loop-v-init : goal.loop-v-init
 loop-v-init g c = λ e. follows-none _ _ _ _ _
