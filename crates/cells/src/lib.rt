@@ -3,36 +3,34 @@
 
 #![tactic(auto)]
 
-ghost use Rattle.std.specs.Prelude.{◌≡◌, ℕ, ◌+◌, ◌≤◌, ◌<◌, leb, length, get_or, replicate};
+ghost use Rattle.std.specs.Prelude.{◌≡◌, true, ℕ, ◌+◌, ◌≤◌, ◌<◌, leb, length, get_or, replicate, position};
 ghost use Rattle.tree.specs.Scan.{least};
 ghost use Rattle.tree.specs.Sections.{Same};
 ghost use Rattle.cells.specs.Cells.{Filled, Copied, Agree};
+
+// No node: what a cell holds in whose place there is none.
+pub const NONE: u16 = 65535;
 
 // Stores `value` in the `count` cells from `first` on.
 pub fn fill(cells: &mut [u16], first: usize, count: usize, value: u16)
     requires { first + count ≤ length cells.old }
     ensures { Filled cells.old first count value cells.new }
 {
-    let mut i = 0;
-    while i < count {
-        cells[first + i] = value;
-        i += 1;
-    }
+    cells[first..first + count].fill(value);
 }
 
 // Stores `value` in every cell.
 pub fn fill_all(cells: &mut [u16], value: u16)
     ensures { cells.new ≡ replicate (length cells.old) value }
 {
-    let n = cells.len();
-    fill(cells, 0, n, value);
+    cells.fill(value);
 }
 
 // Fills a buffer with zeros.
 pub fn clear(buffer: &mut [u16])
     ensures { buffer.new ≡ replicate (length buffer.old) 0 }
 {
-    fill_all(buffer, 0);
+    buffer.fill(0);
 }
 
 // Copies the `count` cells of `from` from `start` on to `to`, from `at` on.
@@ -40,11 +38,7 @@ pub fn copy(to: &mut [u16], at: usize, from: &[u16], start: usize, count: usize)
     requires { (at + count ≤ length to.old) × (start + count ≤ length from.now) }
     ensures { Copied to.old at from.now start count to.new }
 {
-    let mut i = 0;
-    while i < count {
-        to[at + i] = from[start + i];
-        i += 1;
-    }
+    to[at..at + count].copy_from_slice(&from[start..start + count]);
 }
 
 // How many of the `count` cells of `a` from `at` on are equal to those of `b` from `start` on, before the first that is not.
@@ -52,31 +46,39 @@ pub fn agree(a: &[u16], at: usize, b: &[u16], start: usize, count: usize) -> usi
     requires { (at + count ≤ length a.now) × (start + count ≤ length b.now) }
     ensures { Agree a.now at b.now start count result }
 {
-    if differences(a, at, b, start, count) == 0 {
+    if same(a, at, b, start, count) {
         return count;
     }
-    let mut i = 0;
-    while i < count {
+    for i in 0..count {
         if a[at + i] != b[start + i] {
             return i;
         }
-        i += 1;
     }
-    i
+    count
 }
 
-// The bits in which any two cells of the stretches differ: 0 only where they are equal. It stops at no cell, so that several are compared at once.
-fn differences(a: &[u16], at: usize, b: &[u16], start: usize, count: usize) -> u16
+// Whether all those cells are equal: no bit differs in any two. It stops at no cell, so that several are compared at once.
+fn same(a: &[u16], at: usize, b: &[u16], start: usize, count: usize) -> bool
     requires { (at + count ≤ length a.now) × (start + count ≤ length b.now) }
-    ensures { result ≡ 0 → Same a.now at b.now start count }
+    ensures { result ≡ true → Same a.now at b.now start count }
 {
-    let mut bits: u16 = 0;
-    let mut i = 0;
-    while i < count {
-        bits = bits | (a[at + i] ^ b[start + i]);
-        i += 1;
+    let mut bits = 0;
+    for i in 0..count {
+        bits |= a[at + i] ^ b[start + i];
     }
-    bits
+    bits == 0
+}
+
+// Whether the `count` cells from `first` on all hold `value`. It stops at no cell either.
+pub fn all_hold(cells: &[u16], first: usize, count: usize, value: u16) -> bool
+    requires { first + count ≤ length cells.now }
+    ensures { result ≡ true → (i : ℕ) → i < count → get_or cells.now (first + i) 0 ≡ value }
+{
+    let mut bits = 0;
+    for i in 0..count {
+        bits |= cells[first + i] ^ value;
+    }
+    bits == 0
 }
 
 // The first cell that is `bound` or more; the number of cells where there is none.
@@ -87,29 +89,23 @@ pub fn first_from(cells: &[u16], bound: usize) -> usize
     if (largest(cells) as usize) < bound {
         return n;
     }
-    let mut i = 0;
-    while i < n {
-        if bound <= cells[i] as usize {
-            return i;
-        }
-        i += 1;
-    }
-    i
+    position_from(cells, bound).unwrap_or(n)
+}
+
+// The first cell that is `bound` or more, if there is one.
+fn position_from(cells: &[u16], bound: usize) -> Option<usize>
+    ensures { result ≡ position (λ x. leb bound x) cells.now }
+{
+    cells.iter().position(|x| bound <= *x as usize)
 }
 
 // The largest cell; 0 where there is none. It stops at no cell, so that several are compared at once.
 fn largest(cells: &[u16]) -> u16
     ensures { (j : ℕ) → j < length cells.now → get_or cells.now j 0 ≤ result }
 {
-    let n = cells.len();
-    let mut most: u16 = 0;
-    let mut i = 0;
-    while i < n {
-        let x = cells[i];
-        if most < x {
-            most = x;
-        }
-        i += 1;
+    let mut most = 0;
+    for x in cells {
+        most = most.max(*x);
     }
     most
 }

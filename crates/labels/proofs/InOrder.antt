@@ -33,6 +33,11 @@ pub record Below (s work : List ℕ) (f : ℕ → ℕ) (v : ℕ) : Type 0 where
   pub child : parent s v ≢ v
   pub above : get_or work (length s + get_or s v 0) 0 ≡ f (parent s v)
 
+-- node i of the preorder, where there is one, and its parent are nodes: what a turn reads
+pub record Turn (s work : List ℕ) (i : ℕ) : Type 0 where
+  pub node : i < length s → get_or work i 0 < length s
+  pub up : i < length s → get_or s (get_or work i 0) 0 < length s
+
 -- before the first turn
 pub listed_start : {s work : List ℕ} → length work ≡ work_cells (length s) → Listed s work 0
 listed_start long = record { room = long; cell = λ i h b. absurd (omega arith) }
@@ -62,6 +67,10 @@ module _ {s : List ℕ} (t : Tree s) where
   along-at {work} i o h =
       let here : get_or work i 0 ≡ get_or (preorder s) i 0 = rw zero-add at (o.cell i h) in
       record { node = rw here (preorder-part t i h); number = ap (preorder_number s) here ∙ preorder_number-at t i h }
+
+  pub turn : {work : List ℕ} {i : ℕ} → Same work 0 (preorder s) 0 (length s) → Turn s work i
+  unfolding parent
+  turn {work} {i} o = record { node = λ h. (along-at i o h).node; up = λ h. t.inside _ (along-at i o h).node }
 
   -- .. which is the root first
   pub along-root : {work : List ℕ} → Same work 0 (preorder s) 0 (length s) → get_or work 0 0 ≡ t.root

@@ -4,6 +4,5 @@ pub mod Stepping
 -- the columns made from those before them
 pub mod Labelled
 pub mod InOrder
-pub mod Ascending
 pub mod Tops
 pub mod Smearing

@@ -8,21 +8,16 @@ use mathlib.Core.Path.{◌≡◌, sym, ap, ◌∙◌}
 use mathlib.Core.Logic.{◌≢◌}
 use mathlib.Core.List.{List}
 use lib.Bits.{bit_or, bit_xor}
-use lib.Dec.{eqb, lit<}
 use lib.ListN.{length, get_or}
-use Rattle.bits.specs.Bits.{lowest_one}
 use Rattle.cells.proofs.Stretches.{no_bits}
 use Rattle.tree.specs.Tree.{parent, root_of}
 use Rattle.tree.specs.Buffers.{label_cells}
-use Rattle.tree.specs.Labels.{label_column, ascendant, inlabel}
+use Rattle.tree.specs.Labels.{label_column}
 use Rattle.tree.specs.Ready.{Columns, ColumnOwn}
 use Rattle.tree.proofs.Scans.{by_equal}
-use Rattle.tree.proofs.Trees.{level-root, level-parent}
-use Rattle.tree.proofs.Paths.{ascendant_step_lem}
+use Rattle.tree.proofs.Trees.{root-found}
 use Rattle.tree.proofs.Columns.{column-same}
-use Rattle.labels.specs.Steps.{cell_in, Follows, level_step, ascendant_step, Steps}
-use Rattle.labels.proofs.Labelled.{labelled}
-use Rattle.labels.proofs.Ascending.{add-chosen}
+use Rattle.labels.specs.Steps.{cell_in, Follows, Steps, StepAt, StepLaws}
 use Rattle.preorder.proofs.Parents.{Cells, cells_at, the-root, root-down}
 
 -- ---- one node further
@@ -34,43 +29,20 @@ pub follows-more : {s label : List ℕ} {k : ℕ} {more : ℕ → ℕ} {first v 
     → cell_in s label k v ≡ cell_in s label k (parent s v) + more v → Follows s label k more first (suc v)
 follows-more {s} {label} {k} {more} {first} {v} f e = record { step = λ u a b. by_equal u v (λ q. rw q e) (λ q. f.step u a (omega arith)) }
 
--- ---- the loop over them
+-- .. where no bit is gathered
+pub follows-step : {s label : List ℕ} {k : ℕ} {more : ℕ → ℕ} {first bits v m : ℕ} → (bits ≡ 0 → Follows s label k more first v) → m ≡ more v
+    → bit_or bits (bit_xor (cell_in s label k v) (cell_in s label k (get_or s v 0) + m)) ≡ 0 → Follows s label k more first (v + 1)
+unfolding parent
+follows-step {s} {label} {k} {bits = bits} {v = v} f e z =
+    let none = no_bits bits _ _ z in
+    rw add-one (follows-more (f none.0) (none.1 ∙ ap (λ (x : ℕ). cell_in s label k (parent s v) + x) e))
 
--- it stands at v, and where no bit is gathered, the column follows so far
-pub record Gathered (s label : List ℕ) (k : ℕ) (more : ℕ → ℕ) (first end bits v : ℕ) : Type 0 where
-  pub from : first ≤ v
-  pub most : v ≤ end
-  pub follows : bits ≡ 0 → Follows s label k more first v
-
--- the cells that it reads
-pub step-cells : {s label : List ℕ} {first end v : ℕ} → Steps s label first end → v < end → Cells s label v
-step-cells st h = let most = st.most in cells_at st.small st.inside st.cells (omega arith)
-
-module _ {s label : List ℕ} {k : ℕ} {more : ℕ → ℕ} {first end : ℕ} where
-  -- at the first node no bit is
-  pub gathered-start : first ≤ end → Gathered s label k more first end 0 first
-  gathered-start h = record { from = omega arith; most = h; follows = λ _. follows-none s label k more first }
-
-  -- at the next, those in which the cell of the one before differs from what it should be
-  pub gathered-step : {bits v m : ℕ} → Gathered s label k more first end bits v → v < end → m ≡ more v
-      → Gathered s label k more first end (bit_or bits (bit_xor (cell_in s label k v) (cell_in s label k (get_or s v 0) + m))) (v + 1)
-  unfolding parent
-  gathered-step {bits} {v} {m} g h e =
-      let from = g.from in
-      record {
-        from = omega arith;
-        most = omega arith;
-        follows = λ z.
-            let none = no_bits bits _ _ z in
-            rw add-one (follows-more (g.follows none.0) (none.1 ∙ ap (λ (x : ℕ). cell_in s label k (parent s v) + x) e));
-      }
-
-  -- at the last, all
-  pub gathered-end : {bits v : ℕ} → Gathered s label k more first end bits v → end ≤ v → bits ≡ 0 → Follows s label k more first end
-  gathered-end {bits} {v} g h z =
-      let most = g.most in
-      let e : v ≡ end = omega arith in
-      rw e at (g.follows z)
+-- the cells of the node that is looked at
+pub step-at : {s label : List ℕ} {first end v : ℕ} → Steps s label first end → v < end → StepAt s label v
+unfolding parent
+step-at {v = v} st h =
+    let most = st.most in
+    record { small = st.small; cells = st.cells; node = omega arith; above = st.inside v (omega arith) }
 
 -- ---- all of them
 
@@ -97,23 +69,12 @@ module _ {s label work : List ℕ} {k r : ℕ} (p : Columns s label work k × (r
       column-same s label (k * length s) k h
       (root-down p.0.ready.tree p.1 (cell_in s label k) (label_column s k) more first low.step high.step grows)
 
--- LEVEL
-pub levels-own : {s label work : List ℕ} {r : ℕ} → Columns s label work 2 × (r ≡ root_of s) → cell_in s label 2 r ≡ 0
-    → Follows s label 2 level_step 0 r → Follows s label 2 level_step (r + 1) (length s) → ColumnOwn s label 2
-levels-own p first low high =
+-- .. as a column does that keeps the laws
+pub steps-own : {s label work : List ℕ} {k r : ℕ} {top : ℕ → ℕ} {more : List ℕ → List ℕ → ℕ → ℕ} → StepLaws k top more → (p : Columns s label work k × (r ≡ root_of s))
+    → cell_in s label k r ≡ top (length s) → Follows s label k (more s label) 0 r → Follows s label k (more s label) (r + 1) (length s) → ColumnOwn s label k
+steps-own {s} {label} {k = k} {more = more} laws p first low high =
     let t = p.0.ready.tree in
-    follows-own p (lit< tt) level_step (first ∙ sym (level-root t)) low high (λ v h q. let up = level-parent t v h q in omega arith)
-
--- ASCENDANT, with the INLABELs that are the sheet's own
-pub ascendants-own : {s label work : List ℕ} {r : ℕ} (p : Columns s label work 4 × (r ≡ root_of s)) → cell_in s label 4 r ≡ ascendant s p.0.ready.tree.root
-    → Follows s label 4 (ascendant_step s label) 0 r → Follows s label 4 (ascendant_step s label) (r + 1) (length s) → ColumnOwn s label 4
-ascendants-own {s} {label} p first low high =
-    let t = p.0.ready.tree in
-    let own : (v : ℕ) → v < length s → cell_in s label 3 v ≡ inlabel s v = λ v h. (labelled h p.0).is in
-    follows-own p (lit< tt) (ascendant_step s label) first low high
-    (λ v h q.
-    rw (own v h, own (parent s v) (t.inside v h), ascendant_step_lem t v h q)
-    (sym (add-chosen (eqb (inlabel s v) (inlabel s (parent s v))) (ascendant s (parent s v)) (lowest_one (inlabel s v)))))
+    follows-own p laws.column (more s label) (first ∙ laws.root p.0 ∙ ap (label_column s k) (sym (root-found t))) low high (laws.rises p.0)
 
 -- ---- any column
 

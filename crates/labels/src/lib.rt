@@ -5,6 +5,7 @@
 #![tactic(auto)]
 
 mod along;
+mod step;
 mod steps;
 
 ghost use Rattle.std.specs.Prelude.{◌≡◌, true, ◌+◌, ◌-◌, ◌*◌, ◌^◌, ◌≤◌, ◌<◌, length};
@@ -15,8 +16,7 @@ ghost use Rattle.tree.specs.Ready.{Columns, ColumnIn, ColumnOwn, OrderIn};
 ghost use Rattle.cells.specs.Cells.{AgreeAt};
 ghost use Rattle.labels.specs.Heads.{head_place};
 
-// No cell.
-const NONE: u16 = 65535;
+use step::{Ascendant, Level, Step};
 
 // The nodes in preorder, which are the order table, into the first n cells of work.
 pub fn order(parents: &[u16], label: &[u16], work: &mut [u16])
@@ -31,16 +31,12 @@ pub fn column(k: usize, parents: &[u16], root: usize, label: &[u16], work: &mut 
     requires { (2 ≤ k) × (k < 6) × Columns parents.now label.now work.old k × (root ≡ root_of parents.now) }
     ensures { ColumnIn parents.now work.new k }
 {
-    if k == 2 {
-        return levels(parents, label, work);
+    match k {
+        2 => stepwise::<Level>(parents, label, work),
+        3 => inlabels(parents, label, work),
+        4 => stepwise::<Ascendant>(parents, label, work),
+        _ => heads(parents, root, label, work),
     }
-    if k == 3 {
-        return inlabels(parents, label, work);
-    }
-    if k == 4 {
-        return ascendants(parents, label, work);
-    }
-    heads(parents, root, label, work)
 }
 
 // How many cells of column k of a lent label table, from 2 on, are the sheet's own before the first that is not. LEVEL and ASCENDANT are made only where they are
@@ -68,22 +64,20 @@ fn column_holds(k: usize, parents: &[u16], root: usize, label: &[u16], work: &[u
     requires { Columns parents.now label.now work.now k × (root ≡ root_of parents.now) }
     ensures { result ≡ true → ColumnOwn parents.now label.now k }
 {
-    if k == 2 {
-        return steps::levels_hold(parents, root, label, work);
+    match k {
+        2 => steps::hold::<Level>(parents, root, label, work),
+        4 => steps::hold::<Ascendant>(parents, root, label, work),
+        _ => false,
     }
-    if k == 4 {
-        return steps::ascendants_hold(parents, root, label, work);
-    }
-    false
 }
 
-// LEVEL, into the n cells of work from n on.
-fn levels(parents: &[u16], label: &[u16], work: &mut [u16])
-    requires { Columns parents.now label.now work.old 2 }
-    ensures { ColumnIn parents.now work.new 2 }
+// LEVEL or ASCENDANT, into the n cells of work from n on.
+fn stepwise<S: Step>(parents: &[u16], label: &[u16], work: &mut [u16])
+    requires { Columns parents.now label.now work.old S.COLUMN }
+    ensures { ColumnIn parents.now work.new S.COLUMN }
 {
     along::order(parents, label, work);
-    along::levels(parents, work);
+    along::column::<S>(parents, label, work);
 }
 
 // INLABEL, into the n cells of work from n on.
@@ -92,10 +86,8 @@ fn inlabels(parents: &[u16], label: &[u16], work: &mut [u16])
     ensures { ColumnIn parents.now work.new 3 }
 {
     let n = parents.len();
-    let mut v = 0;
-    while v < n {
+    for v in 0..n {
         work[n + v] = inlabel(label[v], label[n + v]);
-        v += 1;
     }
 }
 
@@ -118,29 +110,18 @@ fn below_highest(x: u16) -> u16
     (eight | (eight >> 8)) >> 1
 }
 
-// ASCENDANT, into the n cells of work from n on.
-fn ascendants(parents: &[u16], label: &[u16], work: &mut [u16])
-    requires { Columns parents.now label.now work.old 4 }
-    ensures { ColumnIn parents.now work.new 4 }
-{
-    along::order(parents, label, work);
-    along::ascendants(parents, label, work);
-}
-
 // HEAD, into the n cells of work from n on. A node is the head of its INLABEL where its parent's is another; the root is the head of its own.
 fn heads(parents: &[u16], root: usize, label: &[u16], work: &mut [u16])
     requires { Columns parents.now label.now work.old 4 × (root ≡ root_of parents.now) }
     ensures { ColumnIn parents.now work.new 5 }
 {
     let n = parents.len();
-    cells::fill(work, n, n, NONE);
+    cells::fill(work, n, n, cells::NONE);
     work[n - 1 + label[3 * n + root] as usize] = root as u16;
-    let mut v = 0;
-    while v < n {
+    for v in 0..n {
         let k = label[3 * n + v] as usize;
         let upper = label[3 * n + parents[v] as usize] as usize;
         work[place(n, k, upper)] = v as u16;
-        v += 1;
     }
 }
 
@@ -150,8 +131,5 @@ fn place(n: usize, k: usize, upper: usize) -> usize
     requires { (0 < n) × (n + k ≤ 65535) }
     ensures { result ≡ head_place n k upper }
 {
-    if k == upper {
-        return 0;
-    }
-    n - 1 + k
+    if k == upper { 0 } else { n - 1 + k }
 }

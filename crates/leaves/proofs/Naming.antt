@@ -2,19 +2,29 @@
 -- Assumes nothing.
 use Prim.Native.Nat.{ℕ, suc, ◌+◌, ◌≤◌, ◌<◌}
 use native.Mathlib.Omega.{arith}
-use mathlib.Core.Path.{◌≡◌, sym, ap, ◌∙◌}
+use mathlib.Core.Path.{◌≡◌, refl, sym, ap, ◌∙◌}
 use mathlib.Core.Logic.{◌≢◌}
-use mathlib.Core.Bool.{cond}
+use mathlib.Core.Bool.{Bool, true, false, cond}
 use mathlib.Core.List.{List}
 use borrow.Author.Tests.{eq-eqb, ne_eqb}
-use lib.Dec.{eqb}
+use lib.Dec.{eqb, lit≤}
 use lib.ListN.{length, get_or, set}
 use lib.Seq.{get_or-set_same, get_or-set_other}
+use Rattle.std.specs.Int.{from_bool}
 use Rattle.tree.specs.Scan.{count_below}
 use Rattle.tree.specs.Tree.{parent}
 use Rattle.tree.proofs.Scans.{by_equal, count-pos}
 use Rattle.tree.proofs.Differences.{store-either}
 use Rattle.leaves.specs.Leaves.{Wooded, names, left_at, Named, Taking}
+
+-- one for true, and none for false
+pub one_if : (b : Bool) → from_bool b ≡ cond b 1 0
+one_if true = refl
+one_if false = refl
+
+pub one-at-most : (b : Bool) → from_bool b ≤ 1
+one-at-most true = lit≤ tt
+one-at-most false = lit≤ tt
 
 -- the same sheet with as many cells
 pub wooded-same : {s w w₀ : List ℕ} → Wooded s w₀ → length w ≡ length w₀ → Wooded s w

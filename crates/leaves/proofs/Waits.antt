@@ -2,7 +2,7 @@
 -- Assumes nothing.
 use Prim.Native.Nat.{ℕ, ◌+◌, ◌-◌, ◌*◌, ◌≤◌, ◌<◌}
 use native.Mathlib.Omega.{arith}
-use mathlib.Core.Path.{◌≡◌, sym, ap, ◌∙◌, subst}
+use mathlib.Core.Path.{◌≡◌, refl, sym, ap, ◌∙◌, subst}
 use mathlib.Core.Bool.{cond}
 use mathlib.Core.List.{List}
 use borrow.Author.Tests.{lt-ltb, le-ltb}
@@ -77,6 +77,12 @@ took-both {s} {w'' = w''} {at} {j} {k} {q = q} a b =
       grown = omega arith;
       cells = b.cells ∙ a.cells;
     }
+
+-- none is taken
+pub took-none : {s w : List ℕ} {at found : ℕ} → Taking s w at found → Took s w at 0 found w found
+took-none {s} {w} {at} {found} l =
+    let e : at + 0 ≡ at = omega arith in
+    record { taking = rw e l; kept = λ i h. refl; grown = omega arith; cells = refl }
 
 -- ---- one by one, the part after the next read beforehand
 

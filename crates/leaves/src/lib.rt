@@ -30,35 +30,19 @@ fn earlier(parents: &[u16]) -> bool
     requires { (0 < length parents.now) × (length parents.now ≤ limit) }
     ensures { result ≡ true → (v : ℕ) → v < length parents.now → get_or parents.now v 0 ≤ v }
 {
-    if parents[0] != 0 {
-        return false;
-    }
-    later(parents) == 0
+    parents[0] == 0 && none_later(parents)
 }
 
-// The bits of all by which an entry is above its part's number: 0 only where no part names a later one. It stops at no part, so that several are compared at once.
-fn later(parents: &[u16]) -> u16
+// The same of any sheet: no entry is above its part's number by any bit. It stops at no part, so that several are compared at once.
+fn none_later(parents: &[u16]) -> bool
     requires { length parents.now ≤ limit }
-    ensures { result ≡ 0 → (v : ℕ) → v < length parents.now → get_or parents.now v 0 ≤ v }
+    ensures { result ≡ true → (v : ℕ) → v < length parents.now → get_or parents.now v 0 ≤ v }
 {
-    let n = parents.len();
-    let mut bits: u16 = 0;
-    let mut v = 0;
-    while v < n {
-        bits = bits | above(parents[v], v as u16);
-        v += 1;
+    let mut bits = 0;
+    for v in 0..parents.len() {
+        bits |= parents[v].saturating_sub(v as u16);
     }
-    bits
-}
-
-// By how much a is above b; 0 where it is not.
-fn above(a: u16, b: u16) -> u16
-    ensures { result ≡ a - b }
-{
-    if b < a {
-        return a - b;
-    }
-    0
+    bits == 0
 }
 
 // The numbers from n − 1 down to 0, in the first n cells, and beside each its entry.
@@ -67,10 +51,8 @@ fn fall(parents: &[u16], work: &mut [u16])
     ensures { Falling parents.now work.new (length parents.now) }
 {
     let n = parents.len();
-    let mut i = 0;
-    while i < n {
+    for i in 0..n {
         work[i] = (n - 1 - i) as u16;
         work[2 * n + i] = parents[n - 1 - i];
-        i += 1;
     }
 }

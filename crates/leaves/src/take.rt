@@ -1,6 +1,6 @@
 // Taking leaves off: a part is put into the order once all that name it have been taken. A part that names itself never is.
 
-ghost use Rattle.std.specs.Prelude.{◌≡◌, cond, ◌+◌, ◌*◌, ◌/◌, ◌≤◌, ◌<◌, eqb, ltb, length, get_or};
+ghost use Rattle.std.specs.Prelude.{◌≡◌, cond, ◌*◌, ◌/◌, ltb, length, get_or};
 ghost use Rattle.leaves.specs.Leaves.{Wooded, Named, Taking, Waiting, entry_at, Took};
 
 // How many parts were taken, all that can be: they stand in the first cells of work, in the order in which they were taken, and beside them their entries.
@@ -22,11 +22,8 @@ fn count(parents: &[u16], work: &mut [u16])
     ensures { Named parents.now work.new (length parents.now) }
 {
     let n = parents.len();
-    let mut v = 0;
-    while v < n {
-        let p = n + parents[v] as usize;
-        work[p] = work[p] + 1;
-        v += 1;
+    for p in parents {
+        work[n + *p as usize] += 1;
     }
 }
 
@@ -37,11 +34,9 @@ fn unnamed(parents: &[u16], work: &mut [u16]) -> usize
 {
     let n = parents.len();
     let mut found = 0;
-    let mut v = 0;
-    while v < n {
+    for v in 0..n {
         work[found] = v as u16;
-        found = found + one_for_none(work[n + v]);
-        v += 1;
+        found += usize::from(work[n + v] == 0);
     }
     found
 }
@@ -53,6 +48,7 @@ fn take_eights(parents: &[u16], leaves: usize, work: &mut [u16]) -> usize
 {
     let mut found = leaves;
     let mut at = 0;
+    // The end moves with each part that is put in, so that no range is known beforehand.
     while at + 8 <= found {
         found = eight(parents, at, found, work);
         at += 8;
@@ -69,6 +65,7 @@ fn take_rest(parents: &[u16], first: usize, waiting: usize, work: &mut [u16]) ->
     let mut found = waiting;
     let mut at = first;
     let mut v = work[at];
+    // The end moves here too.
     while at < found {
         let p = parents[v as usize];
         v = next(at + 1, found, work[at + 1], p);
@@ -82,57 +79,22 @@ fn take_rest(parents: &[u16], first: usize, waiting: usize, work: &mut [u16]) ->
 fn next(place: usize, found: usize, read: u16, p: u16) -> u16
     ensures { result ≡ cond (ltb place found) read p }
 {
-    if place < found {
-        return read;
-    }
-    p
+    if place < found { read } else { p }
 }
 
 // Takes eight parts. Their entries are all read before anything is stored, so that no read has to wait for a store that might be to the same cell.
-fn eight(parents: &[u16], at: usize, found: usize, work: &mut [u16]) -> usize
+fn eight(parents: &[u16], at: usize, mut found: usize, work: &mut [u16]) -> usize
     requires { Waiting parents.now work.old at 8 found }
     ensures { Took parents.now work.old at 8 found work.new result }
 {
-    let p0 = entry(parents, at, work);
-    let p1 = entry(parents, at + 1, work);
-    let p2 = entry(parents, at + 2, work);
-    let p3 = entry(parents, at + 3, work);
-    let p4 = entry(parents, at + 4, work);
-    let p5 = entry(parents, at + 5, work);
-    let p6 = entry(parents, at + 6, work);
-    let p7 = entry(parents, at + 7, work);
-    let half = four(parents, at, p0, p1, p2, p3, found, work);
-    four(parents, at + 4, p4, p5, p6, p7, half, work)
-}
-
-// Takes four parts, whose entries are given.
-fn four(
-    parents: &[u16],
-    at: usize,
-    p0: u16,
-    p1: u16,
-    p2: u16,
-    p3: u16,
-    found: usize,
-    work: &mut [u16],
-) -> usize
-    requires { Waiting parents.now work.old at 4 found × (p0 ≡ entry_at parents.now work.old at)
-        × (p1 ≡ entry_at parents.now work.old (at + 1)) × (p2 ≡ entry_at parents.now work.old (at + 2))
-        × (p3 ≡ entry_at parents.now work.old (at + 3)) }
-    ensures { Took parents.now work.old at 4 found work.new result }
-{
-    let half = two(parents, at, p0, p1, found, work);
-    two(parents, at + 2, p2, p3, half, work)
-}
-
-// Takes two parts, whose entries are given.
-fn two(parents: &[u16], at: usize, p0: u16, p1: u16, found: usize, work: &mut [u16]) -> usize
-    requires { Waiting parents.now work.old at 2 found × (p0 ≡ entry_at parents.now work.old at)
-        × (p1 ≡ entry_at parents.now work.old (at + 1)) }
-    ensures { Took parents.now work.old at 2 found work.new result }
-{
-    let half = one(parents, at, p0, found, work);
-    one(parents, at + 1, p1, half, work)
+    let mut entries = [0; 8];
+    for i in 0..8 {
+        entries[i] = parents[work[at + i] as usize];
+    }
+    for k in 0..8 {
+        found = one(parents, at + k, entries[k], found, work);
+    }
+    found
 }
 
 // Takes a part, whose entry is given: one less is left that names that, and it is put in behind the others when none is. How many are in the order then. The
@@ -146,23 +108,5 @@ fn one(parents: &[u16], at: usize, p: u16, found: usize, work: &mut [u16]) -> us
     work[n + p as usize] = left;
     work[found] = p;
     work[2 * n + at] = p;
-    found + one_for_none(left)
-}
-
-// The entry of the part at a place of the order.
-fn entry(parents: &[u16], at: usize, work: &[u16]) -> u16
-    requires { (at < length work.now) × (get_or work.now at 0 < length parents.now) }
-    ensures { result ≡ entry_at parents.now work.now at }
-{
-    parents[work[at] as usize]
-}
-
-// 1 for 0, and 0 for any other.
-fn one_for_none(x: u16) -> usize
-    ensures { (result ≡ cond (eqb x 0) 1 0) × (result ≤ 1) }
-{
-    if x == 0 {
-        return 1;
-    }
-    0
+    found + usize::from(left == 0)
 }

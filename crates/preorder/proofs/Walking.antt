@@ -62,6 +62,18 @@ walking_start {s} {work} {root} w =
       sym (at-number t root 0 h first),
     )
 
+-- v is node k of the preorder: where there is one, it is a node, and so is its parent
+pub record Next (s : List ℕ) (k v : ℕ) : Type 0 where
+  pub is : v ≡ node_at s k
+  pub node : k < length s → v < length s
+  pub above : k < length s → get_or s v 0 < length s
+
+pub next-at : {s : List ℕ} {k v : ℕ} → Tree s → v ≡ node_at s k → Next s k v
+unfolding parent
+next-at {s} {k} {v} t is =
+    let node : k < length s → v < length s = λ b. rw is (at-node t k b).node in
+    record { is = is; node = node; above = λ b. t.inside v (node b) }
+
 -- the node after v, as it is read once v has number k + 1
 abbrev after_read : List ℕ → List ℕ → ℕ → ℕ → ℕ
 after_read s work k v = first_of (length s) (get_or (set work (2 * length s + v) (k + 1)) (length s + v) 0) (get_or work (3 * length s + parent s v) 0)

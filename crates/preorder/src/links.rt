@@ -13,9 +13,7 @@ pub(crate) fn link(parents: &[u16], work: &mut [u16])
 {
     let n = parents.len();
     cells::fill(work, 0, 2 * n, n as u16);
-    let mut i = n;
-    while 0 < i {
-        i -= 1;
+    for i in (0..n).rev() {
         let p = parents[i] as usize;
         if p != i {
             work[n + i] = work[p];
@@ -43,11 +41,9 @@ fn number(parents: &[u16], root: usize, work: &mut [u16])
     let n = parents.len();
     work[3 * n + root] = n as u16;
     let mut v = root;
-    let mut k = 0;
-    while k < n {
+    for k in 0..n {
         let above = work[3 * n + parents[v] as usize];
-        k += 1;
-        work[2 * n + v] = k as u16;
+        work[2 * n + v] = k as u16 + 1;
         let after = first_of(work[n + v], above, n as u16);
         work[3 * n + v] = after;
         v = first_of(work[v], after, n as u16) as usize;
@@ -58,10 +54,7 @@ fn number(parents: &[u16], root: usize, work: &mut [u16])
 fn first_of(a: u16, b: u16, none: u16) -> u16
     ensures { result ≡ first_of none a b }
 {
-    if a < none {
-        return a;
-    }
-    b
+    if a < none { a } else { b }
 }
 
 // SIZE in place of the node after: the distance to its number.
@@ -70,10 +63,8 @@ fn measure(parents: &[u16], work: &mut [u16])
     ensures { NumbersIn parents.now work.new }
 {
     let n = parents.len();
-    let mut v = 0;
-    while v < n {
+    for v in 0..n {
         work[3 * n + v] = end(n, work[3 * n + v] as usize, work) - work[2 * n + v];
-        v += 1;
     }
 }
 
@@ -83,7 +74,8 @@ fn end(n: usize, node: usize, work: &[u16]) -> u16
     ensures { result ≡ end_of work.now n node }
 {
     if node < n {
-        return work[2 * n + node];
+        work[2 * n + node]
+    } else {
+        n as u16 + 1
     }
-    n as u16 + 1
 }

@@ -14,39 +14,30 @@ pub(crate) fn hold(parents: &[u16], root: usize, label: &[u16], work: &mut [u16]
 {
     let n = parents.len();
     cells::fill(work, 0, n, 1);
-    if add(parents, label, 0, root, work) != 0 {
-        return false;
-    }
-    if add(parents, label, root + 1, n, work) != 0 {
-        return false;
-    }
-    if label[root] != 1 {
-        return false;
-    }
-    cells::agree(label, n, work, 0, n) == n
+    label[root] == 1
+        && add(parents, label, 0, root, work)
+        && add(parents, label, root + 1, n, work)
+        && cells::agree(label, n, work, 0, n) == n
 }
 
-// Adds the SIZE of each node from `first` on, up to `end`, to its parent's sum, in the first n cells of work. The bits in which any PREORDER of theirs differs
-// from their parent's and the sum until then. SIZEs of a sheet's own table never add up to more than n: where lent ones do, the sum is not kept, and the
-// answer is 1. The root is none of the nodes.
-fn add(parents: &[u16], label: &[u16], first: usize, end: usize, work: &mut [u16]) -> usize
+// Adds the SIZE of each node from `first` on, up to `end`, to its parent's sum, in the first n cells of work. Whether each PREORDER of theirs is their parent's
+// and the sum until then. SIZEs of a sheet's own table never add up to more than n: where lent ones do, the sum is not kept. The root is none of the nodes.
+fn add(parents: &[u16], label: &[u16], first: usize, end: usize, work: &mut [u16]) -> bool
     requires { Adds parents.now label.now first end work.old }
-    ensures { result ≡ 0 → Sums parents.now label.now work.new end
+    ensures { result ≡ true → Sums parents.now label.now work.new end
         × Numbered parents.now label.now first end }
 {
     let n = parents.len();
     let mut bits: usize = 0;
-    let mut v = first;
-    while v < end {
+    for v in first..end {
         let p = parents[v] as usize;
         let sum = work[p] as usize;
         let grown = sum + label[n + v] as usize;
         if n < grown {
-            return 1;
+            return false;
         }
-        bits = bits | (label[v] as usize ^ (label[p] as usize + sum));
+        bits |= label[v] as usize ^ (label[p] as usize + sum);
         work[p] = grown as u16;
-        v += 1;
     }
-    bits
+    bits == 0
 }

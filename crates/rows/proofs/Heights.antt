@@ -1,12 +1,13 @@
 -- The levels at the positions of the sparse rows, in the halves of work by turns: those of a row from those of the row before it.
 -- Assumes nothing.
-use Prim.Native.Nat.{ℕ, zero, suc, ◌+◌, ◌-◌, ◌*◌, ◌^◌, ◌≤◌, ◌<◌}
+use Prim.Native.Nat.{ℕ, zero, suc, ◌+◌, ◌-◌, ◌*◌, ◌^◌, min, ◌≤◌, ◌<◌}
 use native.Mathlib.Nat.{pow-suc}
 use native.Mathlib.Omega.{arith}
 use mathlib.Core.Path.{◌≡◌, refl, sym, ap, ◌∙◌}
 use mathlib.Core.Logic.{◌≢◌, ⊎_elim}
 use mathlib.Core.Bool.{Bool, true, false, cond}
 use mathlib.Core.List.{List}
+use borrow.Author.Tests.{ltb-true, ltb-false}
 use lib.Dec.{ltb}
 use lib.ListN.{length, get_or, set}
 use lib.Seq.{get_or-set_other}
@@ -14,6 +15,7 @@ use Rattle.tree.specs.Tree.{level}
 use Rattle.tree.specs.Buffers.{visits, work_cells}
 use Rattle.tree.specs.Preorder.{tour}
 use Rattle.tree.specs.Tour.{sparse}
+use Rattle.tree.proofs.Scans.{by-test}
 use Rattle.tree.proofs.Differences.{store-either}
 use Rattle.tree.proofs.Sparse.{sparse-suc}
 use Rattle.cells.specs.Cells.{Filled}
@@ -44,12 +46,15 @@ height-chosen : (s : List ℕ) (b : Bool) (p q : ℕ) → height s (cond b p q) 
 height-chosen s true p q = refl
 height-chosen s false p q = refl
 
+-- the lesser of two
+lesser-min : (a b : ℕ) → cond (ltb b a) b a ≡ min a b
+lesser-min a b = by-test (ltb b a) (λ e. let h = ltb-true b a e in rw e (omega arith)) (λ e. let h = ltb-false b a e in rw e (omega arith))
+
 -- the levels of two blocks side by side stand in work, and the lesser is that of the block of both
 pub record TwoLevels (s work : List ℕ) (half from i : ℕ) : Type 0 where
   pub left : Inside (length s) from i
   pub right : Inside (length s) from (i + half)
-  pub both : (j : ℕ) → 2 ^ j ≡ 2 * half
-      → cond (ltb (get_or work (from + i + half) 0) (get_or work (from + i) 0)) (get_or work (from + i + half) 0) (get_or work (from + i) 0) ≡ height s (sparse s j i)
+  pub both : (j : ℕ) → 2 ^ j ≡ 2 * half → min (get_or work (from + i) 0) (get_or work (from + i + half) 0) ≡ height s (sparse s j i)
 
 pub two-levels : {s work before : List ℕ} {half from : ℕ} → LevelRow s half from before → RowLevels s work from half → (i : ℕ)
     → i + 2 * half ≤ visits (length s) → TwoLevels s work half from i
@@ -59,8 +64,7 @@ two-levels {s} {work} {before} {half} {from} r l i h = record {
   both = both;
 }
   where
-    both : (j : ℕ) → 2 ^ j ≡ 2 * half
-        → cond (ltb (get_or work (from + i + half) 0) (get_or work (from + i) 0)) (get_or work (from + i + half) 0) (get_or work (from + i) 0) ≡ height s (sparse s j i)
+    both : (j : ℕ) → 2 ^ j ≡ 2 * half → min (get_or work (from + i) 0) (get_or work (from + i + half) 0) ≡ height s (sparse s j i)
     both zero e = absurd (omega arith)
     both (suc j) e =
         let power : 2 ^ j ≡ half = omega (arith, pow-suc 2 j) in
@@ -69,7 +73,8 @@ two-levels {s} {work} {before} {half} {from} r l i h = record {
         ap (λ (x : ℕ). get_or work x 0) (omega arith) ∙ l.at_block j (i + half) power (omega arith) in
         let right = sparse s j (i + half) in
         let left = sparse s j i in
-        rw (a, b, sparse-suc s j i (omega arith), power) (sym (height-chosen s (ltb (height s right) (height s left)) right left))
+        rw (a, b, sparse-suc s j i (omega arith), power)
+        (sym (height-chosen s (ltb (height s right) (height s left)) right left ∙ lesser-min (height s left) (height s right)))
 
 -- the levels of the next row's first i cells, beside those of the row
 pub record Lowered (s work : List ℕ) (half from i : ℕ) : Type 0 where

@@ -40,12 +40,16 @@ pub record SparseRow (s table : List ℕ) (at half from : ℕ) (work : List ℕ)
 abbrev pub BlocksOwn : List ℕ → List ℕ → ℕ → ℕ → Type 0
 BlocksOwn s table at half = Same table (at + visits (length s)) (tour_table s) (at + visits (length s)) (2 * length s - 2 * half)
 
--- what is read of the row at `at` for two blocks side by side, from i on, and of their levels; the position of lesser level is the next row's
+-- of the positions of two blocks side by side, from cell i of the row at `at` on, the one of lesser level, the left one at equal levels
+abbrev pub chosen : List ℕ → List ℕ → ℕ → ℕ → ℕ → ℕ → ℕ
+chosen table work at half from i =
+    cond (ltb (get_or work (from + i + half) 0) (get_or work (from + i) 0)) (get_or table (at + i + half) 0) (get_or table (at + i) 0)
+
+-- what is read for it of the row and of the levels; it is the next row's
 pub record TwoBlocks (s table work : List ℕ) (at half from i : ℕ) : Type 0 where
   pub right : at + i + half < length table
   pub right-level : from + i + half < length work
-  pub lesser : cond (ltb (get_or work (from + i + half) 0) (get_or work (from + i) 0)) (get_or table (at + i + half) 0) (get_or table (at + i) 0)
-      ≡ get_or (tour_table s) (at + visits (length s) + i) 0
+  pub lesser : chosen table work at half from i ≡ get_or (tour_table s) (at + visits (length s) + i) 0
 
 -- a lift table whose row that begins at `at` is the sheet's own and is not the last
 pub record LiftRow (s table : List ℕ) (at : ℕ) (work : List ℕ) : Type 0 where

@@ -18,12 +18,10 @@ pub fn visits(parents: &[u16], label: &[u16], work: &mut [u16])
     ensures { TourIn parents.now work.new 0 (visits (length parents.now)) }
 {
     let n = parents.len();
-    let mut v = 0;
-    while v < n {
+    for v in 0..n {
         let first = first_visit(label[v], label[2 * n + v]);
         work[first] = v as u16;
         work[first + 2 * label[n + v] as usize - 1] = parents[v];
-        v += 1;
     }
 }
 
@@ -41,9 +39,7 @@ pub fn first_visits(parents: &[u16], label: &[u16], work: &mut [u16])
     ensures { TourIn parents.now work.new (visits (length parents.now)) (length parents.now) }
 {
     let n = parents.len();
-    let mut v = 0;
-    while v < n {
+    for v in 0..n {
         work[v] = first_visit(label[v], label[2 * n + v]) as u16;
-        v += 1;
     }
 }

@@ -1,6 +1,6 @@
 // The rows of the lift table: two lifts of 2^k steps are one of 2^(k+1).
 
-ghost use Rattle.std.specs.Prelude.{◌≡◌, ℕ, ◌+◌, ◌≤◌, ◌<◌, length, get_or};
+ghost use Rattle.std.specs.Prelude.{◌≡◌, true, ◌+◌, length};
 ghost use Rattle.tree.specs.Lifts.{lift_table};
 ghost use Rattle.tree.specs.Ready.{LiftIn, LiftOwn};
 ghost use Rattle.cells.specs.Cells.{AgreeAt};
@@ -14,10 +14,11 @@ pub fn next_lift(parents: &[u16], lift: &[u16], at: usize, work: &mut [u16])
 {
     let n = parents.len();
     let first = lift[at];
-    if differences_from(lift, at, n, first) == 0 {
-        return cells::fill(work, 0, n, first);
+    if cells::all_hold(lift, at, n, first) {
+        cells::fill(work, 0, n, first);
+    } else {
+        twice(parents, lift, at, work);
     }
-    twice(parents, lift, at, work)
 }
 
 // How many cells of that row, in the table, are the sheet's own before the first that is not. The row is made only where some are not.
@@ -26,24 +27,25 @@ pub fn agree_lift(parents: &[u16], lift: &[u16], at: usize, work: &mut [u16]) ->
     ensures { AgreeAt lift.now (lift_table parents.now) (at + length parents.now) (length parents.now) result }
 {
     let n = parents.len();
-    if differences(parents, lift, at, work) == 0 {
+    if next_holds(parents, lift, at, work) {
         return n;
     }
     next_lift(parents, lift, at, work);
     cells::agree(lift, at + n, work, 0, n)
 }
 
-// The bits in which any of its cells differs from the sheet's own.
-fn differences(parents: &[u16], lift: &[u16], at: usize, work: &[u16]) -> u16
+// Whether all its cells are the sheet's own.
+fn next_holds(parents: &[u16], lift: &[u16], at: usize, work: &[u16]) -> bool
     requires { LiftRow parents.now lift.now at work.now }
-    ensures { result ≡ 0 → LiftOwn parents.now lift.now at }
+    ensures { result ≡ true → LiftOwn parents.now lift.now at }
 {
     let n = parents.len();
     let first = lift[at];
-    if differences_from(lift, at, n, first) == 0 {
-        return differences_from(lift, at + n, n, first);
+    if cells::all_hold(lift, at, n, first) {
+        cells::all_hold(lift, at + n, n, first)
+    } else {
+        twice_holds(parents, lift, at, work)
     }
-    twice_differences(parents, lift, at, work)
 }
 
 // The row after the one at `at`, cell by cell.
@@ -51,39 +53,20 @@ fn twice(parents: &[u16], lift: &[u16], at: usize, work: &mut [u16])
     requires { LiftRow parents.now lift.now at work.old }
     ensures { LiftIn parents.now work.new at }
 {
-    let n = parents.len();
-    let mut v = 0;
-    while v < n {
+    for v in 0..parents.len() {
         work[v] = lift[at + lift[at + v] as usize];
-        v += 1;
     }
 }
 
-// The same, cell by cell.
-fn twice_differences(parents: &[u16], lift: &[u16], at: usize, work: &[u16]) -> u16
+// Whether they are, cell by cell: no bit differs in any.
+fn twice_holds(parents: &[u16], lift: &[u16], at: usize, work: &[u16]) -> bool
     requires { LiftRow parents.now lift.now at work.now }
-    ensures { result ≡ 0 → LiftOwn parents.now lift.now at }
+    ensures { result ≡ true → LiftOwn parents.now lift.now at }
 {
     let n = parents.len();
-    let mut bits: u16 = 0;
-    let mut v = 0;
-    while v < n {
-        bits = bits | (lift[at + n + v] ^ lift[at + lift[at + v] as usize]);
-        v += 1;
+    let mut bits = 0;
+    for v in 0..n {
+        bits |= lift[at + n + v] ^ lift[at + lift[at + v] as usize];
     }
-    bits
-}
-
-// The bits in which any of the `count` cells from `at` on differs from `value`.
-fn differences_from(cells: &[u16], at: usize, count: usize, value: u16) -> u16
-    requires { at + count ≤ length cells.now }
-    ensures { result ≡ 0 → (v : ℕ) → v < count → get_or cells.now (at + v) 0 ≡ value }
-{
-    let mut bits: u16 = 0;
-    let mut v = 0;
-    while v < count {
-        bits = bits | (cells[at + v] ^ value);
-        v += 1;
-    }
-    bits
+    bits == 0
 }

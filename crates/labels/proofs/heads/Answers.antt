@@ -13,17 +13,15 @@ use Rattle.preorder.proofs.Parents.{the-root}
 use Rattle.labels.proofs.Labelled.{Labelled, labelled}
 use Rattle.labels.proofs.Tops.{place_inside, heads-start, heads-step, heads-end}
 use Rattle.labels.proofs.heads.Goals as goal
-use Rattle.labels.proofs.heads.Goals.{Start, In-loop-v, After-slice_known-2-1, After-place}
+use Rattle.labels.proofs.heads.Goals.{Start, In-loop-v, After-place}
 
 -- the root is a node
 root_below : (c : Start) → c.args.root < length c.args.parents.now
 root_below c = (the-root c.requires.0.ready.tree c.requires.1).node
 
 -- the root's INLABEL
-root-here : (c : After-slice_known-2-1) → Labelled c.args.parents.now c.args.label.now c.args.root
-root-here c =
-    let root_below : c.args.root < length c.args.parents.now = (the-root c.requires.0.ready.tree c.requires.1).node in
-    labelled root_below c.requires.0
+root-here : (c : Start) → Labelled c.args.parents.now c.args.label.now c.args.root
+root-here c = labelled (root_below c) c.requires.0
 
 -- the INLABEL of v
 here : (c : In-loop-v) → Labelled c.args.parents.now c.args.label.now c.loop-v.v
@@ -47,24 +45,22 @@ inside c =
 
 pub loop-v-init : goal.loop-v-init
 loop-v-init c =
-    (search rules, heads-start c.requires.0.ready c.fill.ensures (search rules) c.requires.1 (root-here (goal.at.loop-v-init c).After-slice_known-2-1))
+    heads-start c.requires.0.ready c.fill.ensures (search rules) c.requires.1 (root-here (goal.at.loop-v-init c).Start)
 
 pub place-requires : goal.place-requires
 place-requires c = let f = here (goal.at.place-requires c).In-loop-v in (search rules, search rules)
 
 pub loop-v-preserved : goal.loop-v-preserved
 unfolding parent
-loop-v-preserved c = (
-  search rules,
-  heads-step c.requires.0.ready c.loop-v.invariant.1 c.loop-v-test.true (here (goal.at.loop-v-preserved c).In-loop-v)
-      (above (goal.at.loop-v-preserved c).In-loop-v) c.place.ensures,
-)
+loop-v-preserved c =
+    heads-step c.requires.0.ready c.loop-v.invariant c.loop-v-test.true (here (goal.at.loop-v-preserved c).In-loop-v)
+    (above (goal.at.loop-v-preserved c).In-loop-v) c.place.ensures
 
 pub returns : goal.returns
 returns c =
     let l = c.loop-v in
     let e : l.v ≡ length c.args.parents.now = omega arith in
-    column-same _ _ _ 5 (lit< tt) (heads-end c.requires.0.ready (rw e at l.invariant.1))
+    column-same _ _ _ 5 (lit< tt) (heads-end c.requires.0.ready (rw e at l.invariant))
 
 pub overflow_cast-work : goal.overflow_cast-work
 overflow_cast-work c = let b = root_below (goal.at.overflow_cast-work c).Start in search rules
@@ -79,7 +75,7 @@ pub bounds-label-n : goal.bounds-label-n
 bounds-label-n c = let b = root_below (goal.at.bounds-label-n c).Start in search rules
 
 pub bounds-work-n : goal.bounds-work-n
-bounds-work-n c = let f = root-here (goal.at.bounds-work-n c).After-slice_known-2-1 in search rules
+bounds-work-n c = let f = root-here (goal.at.bounds-work-n c).Start in search rules
 
 pub bounds-label-n-in-loop-v-2 : goal.bounds-label-n-in-loop-v-2
 bounds-label-n-in-loop-v-2 c = let f = up (goal.at.bounds-label-n-in-loop-v-2 c).In-loop-v in search rules

@@ -1,7 +1,6 @@
 -- `labels::inlabels` meets its contract: the nodes below v have their INLABEL.
 -- Assumes nothing.
 use native.Mathlib.Omega.{arith}
-use borrow.Author.Rules.{rules}
 use mathlib.Core.Path.{refl, ◌∙◌}
 use mathlib.Core.Logic.{inl, inr}
 use lib.Dec.{lit<}
@@ -12,7 +11,7 @@ use Rattle.preorder.proofs.Filling.{filling-store}
 use Rattle.labels.proofs.inlabels.Goals as goal
 
 pub loop-v-init : goal.loop-v-init
-loop-v-init c = (search rules, record { room = c.requires.ready.room; cell = λ x h k. absurd (omega arith) })
+loop-v-init c = record { room = c.requires.ready.room; cell = λ x h k. absurd (omega arith) }
 
 pub inlabel-requires : goal.inlabel-requires
 inlabel-requires c = interval-fits c.loop-v-test.true c.requires
@@ -21,9 +20,9 @@ pub loop-v-preserved : goal.loop-v-preserved
 loop-v-preserved c =
     let l = c.loop-v in
     let e = interval-inlabel c.loop-v-test.true c.requires in
-    (search rules, filling-store l.invariant.1 l.v refl (omega arith) (c.inlabel.ensures ∙ e) (λ x h k. by_equal x l.v inl (λ q. inr (omega arith))))
+    filling-store l.invariant l.v refl (omega arith) (c.inlabel.ensures ∙ e) (λ x h k. by_equal x l.v inl (λ q. inr (omega arith)))
 
 pub returns : goal.returns
 returns c =
     let l = c.loop-v in
-    column-same _ _ _ 3 (lit< tt) (λ v h. l.invariant.1.cell v h (omega arith))
+    column-same _ _ _ 3 (lit< tt) (λ v h. l.invariant.cell v h (omega arith))

@@ -6,5 +6,5 @@ use Rattle.labels.proofs.place.Goals as goal
 pub returns-then-k-upper : goal.returns-then-k-upper
 returns-then-k-upper c = rw (eq-eqb _ _ c.if-k-upper.true)
 
-pub returns : goal.returns
-returns c = rw (ne_eqb _ _ c.if-k-upper.false)
+pub returns-else-k-upper : goal.returns-else-k-upper
+returns-else-k-upper c = rw (ne_eqb _ _ c.if-k-upper.false)

@@ -1,7 +1,5 @@
 -- `rows::first_visits` meets its contract: the first v cells of work are the first positions of the nodes below v.
 -- Assumes nothing.
-use Prim.Native.Nat.{◌-◌, ◌≤◌}
-use mathlib.Core.Path.{◌≡◌}
 use lib.ListN.{length}
 use Rattle.tree.specs.Buffers.{visits}
 use Rattle.tree.specs.Tour.{tour_table}
@@ -9,7 +7,4 @@ use Rattle.tree.specs.Sections.{Same}
 use Rattle.rows.proofs.first_visits.Given as goal
 
 abbrev pub invariant-loop-v : goal.invariant-loop-v
-invariant-loop-v l = (l.v ≤ length l.parents) × (length l.work ≡ length l.initial.work) × Same l.work 0 (tour_table l.parents) (visits (length l.parents)) l.v
-
-abbrev pub decreases-loop-v : goal.decreases-loop-v
-decreases-loop-v l = length l.parents - l.v
+invariant-loop-v l = Same l.work 0 (tour_table l.parents) (visits (length l.parents)) l.v

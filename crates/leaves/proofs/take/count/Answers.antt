@@ -1,66 +1,38 @@
 -- `leaves::take::count` meets its contract: each part is one more that names its entry.
 -- Assumes nothing.
 use native.Mathlib.Omega.{arith}
-use Prim.Native.Nat.{ℕ, ◌+◌, ◌<◌}
-use mathlib.Core.Path.{◌≡◌, refl, ◌∙◌}
-use mathlib.Core.List.{List}
-use lib.ListN.{length, get_or, length-set}
+use Prim.Native.Nat.{◌<◌}
+use mathlib.Core.Path.{refl}
+use lib.ListN.{length, get_or}
 use Rattle.tree.proofs.Scans.{count_most}
 use Rattle.leaves.specs.Leaves.{Wooded, names}
 use Rattle.leaves.proofs.Naming.{wooded-same, entry-part, named_step}
 use Rattle.leaves.proofs.take.count.Goals as goal
-use Rattle.leaves.proofs.take.count.Goals.{After-shared_slice_known-1}
+use Rattle.leaves.proofs.take.count.Goals.{In-loop-p}
 
--- the sheet, and the cell of the entry that is read
-abbrev sheet : After-shared_slice_known-1 → List ℕ
-sheet c = c.args.parents.now
+wooded : (c : In-loop-p) → Wooded c.args.parents.now c.loop-p.work
+wooded c = wooded-same c.requires.0 c.loop-p.auto.work
 
-abbrev entry : After-shared_slice_known-1 → ℕ
-entry c = get_or (sheet c) c.loop-v.v 0
+-- the entry is a part
+here : (c : In-loop-p) → get_or c.args.parents.now c.loop-p.p-index 0 < length c.args.parents.now
+here c = entry-part c.requires.0 c.loop-p.p-index c.loop-p-test.true
 
-wooded : (c : After-shared_slice_known-1) → Wooded (sheet c) c.loop-v.work
-wooded c = wooded-same c.requires.0 c.loop-v.invariant.1
+pub loop-p-preserved : goal.loop-p-preserved
+loop-p-preserved c = named_step (wooded (goal.at.loop-p-preserved c).In-loop-p) c.loop-p.invariant c.loop-p-test.true refl refl
 
--- it is a part
-here : (c : After-shared_slice_known-1) → entry c < length (sheet c)
-here c = entry-part c.requires.0 c.loop-v.v c.loop-v-test.true
+pub bounds-work-n : goal.bounds-work-n
+bounds-work-n c = let f = here (goal.at.bounds-work-n c).In-loop-p in let g = wooded (goal.at.bounds-work-n c).In-loop-p in omega arith
 
-pub loop-v-init : goal.loop-v-init
-loop-v-init c = (omega arith, refl, c.requires.1)
-
-pub loop-v-preserved : goal.loop-v-preserved
-loop-v-preserved c =
-    let l = c.loop-v in
-    let p = length (sheet (goal.at.loop-v-preserved c).After-shared_slice_known-1) + entry (goal.at.loop-v-preserved c).After-shared_slice_known-1 in
-    let taken = c.loop-v-test.true in (
-      omega arith,
-      length-set l.work p (get_or l.work p 0 + 1) ∙ l.invariant.1,
-      named_step (wooded (goal.at.loop-v-preserved c).After-shared_slice_known-1) l.invariant.2 taken refl refl,
-    )
-
-pub returns : goal.returns
-returns c =
-    let l = c.loop-v in
-    let e : l.v ≡ length c.args.parents.now = let w = l.invariant.0 in omega arith in
-    rw e at l.invariant.2
-
-pub bounds-work-p : goal.bounds-work-p
-bounds-work-p c =
-    let f = here (goal.at.bounds-work-p c).After-shared_slice_known-1 in let g = wooded (goal.at.bounds-work-p c).After-shared_slice_known-1 in omega arith
-
-pub overflow_add-work : goal.overflow_add-work
-overflow_add-work c =
-    let l = c.loop-v in
-    let most =
-    count_most (names (sheet (goal.at.overflow_add-work c).After-shared_slice_known-1)
-    (entry (goal.at.overflow_add-work c).After-shared_slice_known-1)) l.v in
-    let counted =
-    l.invariant.2.counted (entry (goal.at.overflow_add-work c).After-shared_slice_known-1)
-    (here (goal.at.overflow_add-work c).After-shared_slice_known-1) in
-    let g = wooded (goal.at.overflow_add-work c).After-shared_slice_known-1 in
+pub overflow_add-work-in-loop-p : goal.overflow_add-work-in-loop-p
+overflow_add-work-in-loop-p c =
+    let l = c.loop-p in
+    let s = c.args.parents.now in
+    let p = get_or s l.p-index 0 in
+    let most = count_most (names s p) l.p-index in
+    let counted = l.invariant.counted p (here (goal.at.overflow_add-work-in-loop-p c).In-loop-p) in
+    let g = c.requires.0.small in
     omega arith
 
-pub bounds-work-p-in-loop-v : goal.bounds-work-p-in-loop-v
-bounds-work-p-in-loop-v c =
-    let f = here (goal.at.bounds-work-p-in-loop-v c).After-shared_slice_known-1 in
-    let g = wooded (goal.at.bounds-work-p-in-loop-v c).After-shared_slice_known-1 in omega arith
+pub bounds-work-n-in-loop-p : goal.bounds-work-n-in-loop-p
+bounds-work-n-in-loop-p c =
+    let f = here (goal.at.bounds-work-n-in-loop-p c).In-loop-p in let g = wooded (goal.at.bounds-work-n-in-loop-p c).In-loop-p in omega arith

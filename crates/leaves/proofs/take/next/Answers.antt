@@ -7,5 +7,5 @@ use Rattle.leaves.proofs.take.next.Goals as goal
 pub returns-then-place-found : goal.returns-then-place-found
 returns-then-place-found c = rw (lt-ltb _ _ c.if-place-found.true) refl
 
-pub returns : goal.returns
-returns c = rw (le-ltb _ _ c.if-place-found.false) refl
+pub returns-else-place-found : goal.returns-else-place-found
+returns-else-place-found c = rw (le-ltb _ _ c.if-place-found.false) refl

@@ -8,10 +8,10 @@ use Rattle.leaves.proofs.Naming.{wooded-same}
 use Rattle.leaves.proofs.Taken.{found_below}
 use Rattle.leaves.proofs.Waits.{waiting-part}
 use Rattle.leaves.proofs.take.take_eights.Goals as goal
-use Rattle.leaves.proofs.take.take_eights.Goals.{After-eight-arg-1}
+use Rattle.leaves.proofs.take.take_eights.Goals.{In-loop-at}
 
 -- eight parts wait
-eight-wait : (c : After-eight-arg-1) → Waiting c.args.parents.now c.loop-at.work c.loop-at.at 8 c.loop-at.found
+eight-wait : (c : In-loop-at) → Waiting c.args.parents.now c.loop-at.work c.loop-at.at 8 c.loop-at.found
 eight-wait c =
     let l = c.loop-at.invariant in
     record { wooded = wooded-same c.requires.0 l.1; taking = l.2; wait = c.loop-at-test.true }
@@ -20,7 +20,7 @@ pub loop-at-init : goal.loop-at-init
 loop-at-init c = (refl, refl, c.requires.1)
 
 pub eight-found-requires : goal.eight-found-requires
-eight-found-requires c = eight-wait c
+eight-found-requires c = eight-wait (goal.at.eight-found-requires c).In-loop-at
 
 pub loop-at-preserved : goal.loop-at-preserved
 loop-at-preserved c =
@@ -44,6 +44,6 @@ overflow_add-at c =
 
 pub loop-at-smaller : goal.loop-at-smaller
 loop-at-smaller c =
-    let f = waiting-part (eight-wait (goal.at.loop-at-smaller c).After-eight-arg-1) c.loop-at.at (omega arith) in
+    let f = waiting-part (eight-wait (goal.at.loop-at-smaller c).In-loop-at) c.loop-at.at (omega arith) in
     let wait = c.loop-at-test.true in
     omega arith

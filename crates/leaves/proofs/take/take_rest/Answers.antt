@@ -9,17 +9,17 @@ use Rattle.leaves.proofs.Naming.{wooded-same}
 use Rattle.leaves.proofs.Taken.{found_below}
 use Rattle.leaves.proofs.Waits.{next-is, waiting-part}
 use Rattle.leaves.proofs.take.take_rest.Goals as goal
-use Rattle.leaves.proofs.take.take_rest.Goals.{In-loop-at, After-shared_slice_known-in-loop-at-1}
+use Rattle.leaves.proofs.take.take_rest.Goals.{In-loop-at}
 
 -- a part waits
-one-waits : (c : After-shared_slice_known-in-loop-at-1) → Waiting c.args.parents.now c.loop-at.work c.loop-at.at 1 c.loop-at.found
+one-waits : (c : In-loop-at) → Waiting c.args.parents.now c.loop-at.work c.loop-at.at 1 c.loop-at.found
 one-waits c =
     let l = c.loop-at.invariant in
     let wait = c.loop-at-test.true in
     record { wooded = wooded-same c.requires.0 l.0; taking = l.1; wait = omega arith }
 
 -- it is the part at hand; there are few, and cells behind them
-here : (c : After-shared_slice_known-in-loop-at-1) →
+here : (c : In-loop-at) →
     (c.loop-at.v < length c.args.parents.now) × (c.loop-at.at + 1 < length c.loop-at.work) × (c.loop-at.at < length c.args.parents.now)
     × (c.loop-at.at < 16384)
 here c =
@@ -36,7 +36,7 @@ loop-at-init c = (refl, c.requires.1, λ _. refl)
 pub one-found-requires : goal.one-found-requires
 one-found-requires c =
     let l = c.loop-at in (
-      one-waits (goal.at.one-found-requires c).After-shared_slice_known-in-loop-at-1,
+      one-waits (goal.at.one-found-requires c).In-loop-at,
       ap (λ (x : ℕ). get_or c.args.parents.now x 0) (l.invariant.2 c.loop-at-test.true),
     )
 
@@ -66,4 +66,4 @@ bounds-work-at c =
     omega arith
 
 pub loop-at-smaller : goal.loop-at-smaller
-loop-at-smaller c = let f = here (goal.at.loop-at-smaller c).After-shared_slice_known-in-loop-at-1 in omega arith
+loop-at-smaller c = let f = here (goal.at.loop-at-smaller c).In-loop-at in omega arith

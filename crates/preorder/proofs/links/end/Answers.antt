@@ -6,5 +6,5 @@ use Rattle.preorder.proofs.links.end.Goals as goal
 pub returns-then-node-n : goal.returns-then-node-n
 returns-then-node-n c = rw (lt-ltb _ _ c.if-node-n.true)
 
-pub returns : goal.returns
-returns c = rw (le-ltb _ _ c.if-node-n.false)
+pub returns-else-node-n : goal.returns-else-node-n
+returns-else-node-n c = rw (le-ltb _ _ c.if-node-n.false)

@@ -6,5 +6,5 @@ use Rattle.preorder.proofs.links.first_of.Goals as goal
 pub returns-then-a-none : goal.returns-then-a-none
 returns-then-a-none c = rw (lt-ltb _ _ c.if-a-none.true)
 
-pub returns : goal.returns
-returns c = rw (le-ltb _ _ c.if-a-none.false)
+pub returns-else-a-none : goal.returns-else-a-none
+returns-else-a-none c = rw (le-ltb _ _ c.if-a-none.false)

@@ -24,7 +24,7 @@ up c =
 pub loop-i-init : goal.loop-i-init
 loop-i-init c =
     let f = c.fill in
-    (search rules, search rules, linking-start (ready-kept c.requires f.auto.cells) f.ensures)
+    (search rules, linking-start (ready-kept c.requires f.auto.cells) f.ensures)
 
 pub loop-i-preserved-then-p-i : goal.loop-i-preserved-then-p-i
 unfolding parent
@@ -32,20 +32,20 @@ loop-i-preserved-then-p-i c =
     let l = c.loop-i in
     let b = up (goal.at.loop-i-preserved-then-p-i c).In-loop-i in
     let e : l.i ≡ suc (l.i - 1) = omega arith in
-    (omega arith, simp length-set l.invariant.1, linking-child b.0 b.1 c.if-p-i.true (rw e at l.invariant.2))
+    (simp length-set l.invariant.0, linking-child b.0 b.1 c.if-p-i.true (rw e at l.invariant.1))
 
 pub loop-i-preserved : goal.loop-i-preserved
 unfolding parent
 loop-i-preserved c =
     let l = c.loop-i in
     let e : l.i ≡ suc (l.i - 1) = omega arith in
-    (omega arith, l.invariant.1, linking-root (up (goal.at.loop-i-preserved c).In-loop-i).0 c.if-p-i.false (rw e at l.invariant.2))
+    (l.invariant.0, linking-root (up (goal.at.loop-i-preserved c).In-loop-i).0 c.if-p-i.false (rw e at l.invariant.1))
 
 pub returns : goal.returns
 returns c =
     let l = c.loop-i in
     let e : l.i ≡ 0 = omega arith in
-    linking-end (rw e at l.invariant.2)
+    linking-end (rw e at l.invariant.1)
 
 pub bounds-work-p : goal.bounds-work-p
 bounds-work-p c = let b = up (goal.at.bounds-work-p c).In-loop-i in omega arith

@@ -9,23 +9,23 @@ use Rattle.preorder.proofs.links.measure.Goals as goal
 
 pub loop-v-init : goal.loop-v-init
 loop-v-init c =
-    (search rules, measuring-start c.requires.0 c.requires.1)
+    measuring-start c.requires.0 c.requires.1
 
 pub end-requires : goal.end-requires
-end-requires c = (c.loop-v.invariant.1.number.room, search rules)
+end-requires c = (c.loop-v.invariant.number.room, search rules)
 
 pub loop-v-preserved : goal.loop-v-preserved
 loop-v-preserved c =
     let t = c.requires.0.tree in
-    (search rules, measuring-step t c.loop-v-test.true c.loop-v.invariant.1 c.end.ensures)
+    measuring-step t c.loop-v-test.true c.loop-v.invariant c.end.ensures
 
 pub returns : goal.returns
 returns c =
     let l = c.loop-v in
     let e : l.v ≡ length c.args.parents.now = omega arith in
-    measuring-end (rw e at l.invariant.1)
+    measuring-end (rw e at l.invariant)
 
 pub overflow_sub-work : goal.overflow_sub-work
 overflow_sub-work c =
-    let e = measuring-ends c.requires.0.tree c.loop-v-test.true c.loop-v.invariant.1 in
+    let e = measuring-ends c.requires.0.tree c.loop-v-test.true c.loop-v.invariant in
     omega (arith, c.end.ensures)

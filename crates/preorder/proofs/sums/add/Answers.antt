@@ -2,17 +2,16 @@
 -- Assumes nothing.
 use native.Mathlib.Omega.{arith}
 use borrow.Author.Rules.{rules}
-use Prim.Native.Nat.{ℕ, ◌+◌, ◌*◌, ◌<◌}
+use Prim.Native.Nat.{◌+◌, ◌*◌}
 use native.Mathlib.Numerals.{add-one}
 use mathlib.Core.Path.{◌≡◌, ap, ◌∙◌}
-use mathlib.Core.List.{List}
-use lib.ListN.{length, get_or, length-set}
+use lib.ListN.{length, get_or}
 use Rattle.tree.specs.Tree.{parent}
 use Rattle.cells.proofs.Stretches.{no_bits}
 use Rattle.preorder.proofs.Parents.{Cells, cells_at}
 use Rattle.preorder.proofs.Summing.{sums-more, numbered-none, numbered_more}
 use Rattle.preorder.proofs.sums.add.Goals as goal
-use Rattle.preorder.proofs.sums.add.Goals.{In-loop-v, After-shared_slice_known-in-loop-v-1}
+use Rattle.preorder.proofs.sums.add.Goals.{In-loop-v}
 
 cells : (c : In-loop-v) → Cells c.args.parents.now c.args.label.now c.loop-v.v
 cells c =
@@ -22,47 +21,23 @@ cells c =
 
 -- work keeps its length
 room : (c : In-loop-v) → length c.loop-v.work ≡ 4 * length c.args.parents.now
-room c = c.loop-v.invariant.2 ∙ c.requires.ready.room
-
--- the node's parent
-abbrev parent_of : After-shared_slice_known-in-loop-v-1 → ℕ
-parent_of c = get_or c.args.parents.now c.loop-v.v 0
-
--- its sum and the node's SIZE, as they were read, have 16 bits
-record Read (label work : List ℕ) (n v p : ℕ) : Type 0 where
-  sum : get_or work p 0 < 65536
-  size : get_or label (n + v) 0 < 65536
-
-read : (c : After-shared_slice_known-in-loop-v-1) → Read c.args.label.now c.loop-v.work (length c.args.parents.now) c.loop-v.v (parent_of c)
-read c =
-    let s = c.args in
-    let l = c.loop-v in
-    record {
-      sum = omega (arith, c.type_inv.work (parent_of c));
-      size = omega (arith, c.type_inv.label (length s.parents.now + l.v));
-    }
+room c = c.loop-v.auto.work ∙ c.requires.ready.room
 
 pub loop-v-init : goal.loop-v-init
-loop-v-init c = (search rules, c.requires.ordered, search rules, c.requires.sums, λ e. numbered-none _ _ _)
-
-pub returns-then-n-grown : goal.returns-then-n-grown
-returns-then-n-grown c = λ z. absurd (omega arith)
+loop-v-init c = (c.requires.sums, λ e. numbered-none _ _ _)
 
 pub loop-v-preserved : goal.loop-v-preserved
 unfolding parent
 loop-v-preserved c =
     let l = c.loop-v in
     let f = cells (goal.at.loop-v-preserved c).In-loop-v in
-    let child = c.requires.child l.v l.invariant.0 c.loop-v-test.true in (
-      omega arith,
-      omega arith,
-      simp length-set l.invariant.2,
-      rw add-one (sums-more (omega (arith, room (goal.at.loop-v-preserved c).In-loop-v)) f.above child l.invariant.3),
+    let child = c.requires.child l.v (omega arith) c.loop-v-test.true in (
+      rw add-one (sums-more (omega (arith, room (goal.at.loop-v-preserved c).In-loop-v)) f.above child l.invariant.0),
       λ z.
           let none = no_bits _ _ _ z in
           rw add-one
-          (numbered_more (l.invariant.4 none.0)
-          (none.1 ∙ ap (λ k. get_or c.args.label.now (get_or c.args.parents.now l.v 0) 0 + k) (l.invariant.3.sum _ f.above))),
+          (numbered_more (l.invariant.1 none.0)
+          (none.1 ∙ ap (λ k. get_or c.args.label.now (get_or c.args.parents.now l.v 0) 0 + k) (l.invariant.0.sum _ f.above))),
     )
 
 pub returns : goal.returns
@@ -70,7 +45,7 @@ returns c =
     λ z.
     let l = c.loop-v in
     let e : l.v ≡ c.args.end = omega arith in
-    (rw e at l.invariant.3, rw e at (l.invariant.4 z))
+    (rw e at l.invariant.0, rw e at (l.invariant.1 (search rules)))
 
 pub bounds-work-p : goal.bounds-work-p
 bounds-work-p c = let d = cells (goal.at.bounds-work-p c).In-loop-v in omega (arith, room (goal.at.bounds-work-p c).In-loop-v)

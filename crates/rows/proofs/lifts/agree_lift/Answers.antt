@@ -6,8 +6,8 @@ use Rattle.cells.proofs.Stretches.{agree_same}
 use Rattle.rows.proofs.Doubled.{next-room}
 use Rattle.rows.proofs.lifts.agree_lift.Goals as goal
 
-pub returns-then-differences-eq0 : goal.returns-then-differences-eq0
-returns-then-differences-eq0 c = record { most = le_refl _; same = c.differences.ensures c.if-differences-eq0.true; parts = λ h. absurd (omega arith) }
+pub returns-then-next_holds : goal.returns-then-next_holds
+returns-then-next_holds c = record { most = le_refl _; same = c.next_holds.ensures c.if-next_holds.true; parts = λ h. absurd (omega arith) }
 
 pub agree-requires : goal.agree-requires
 agree-requires c =

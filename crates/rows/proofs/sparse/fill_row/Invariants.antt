@@ -1,7 +1,6 @@
 -- `rows::sparse::fill_row` meets its contract: the table is the sheet's own up to the next row's first i cells; then come the blocks that pass the end.
 -- Assumes nothing.
-use Prim.Native.Nat.{◌+◌, ◌-◌, ◌*◌, ◌≤◌}
-use mathlib.Core.Path.{◌≡◌}
+use Prim.Native.Nat.{◌+◌}
 use lib.ListN.{length}
 use Rattle.tree.specs.Buffers.{visits}
 use Rattle.tree.specs.Tour.{tour_table}
@@ -10,8 +9,4 @@ use Rattle.rows.proofs.sparse.fill_row.Given as goal
 
 abbrev pub invariant-loop-i : goal.invariant-loop-i
 invariant-loop-i l =
-    (l.i ≤ 2 * length l.parents - 2 * l.half) × (length l.table ≡ length l.initial.table)
-    × Same l.table 0 (tour_table l.parents) 0 (l.at + visits (length l.parents) + l.i)
-
-abbrev pub decreases-loop-i : goal.decreases-loop-i
-decreases-loop-i l = 2 * length l.parents - 2 * l.half - l.i
+    Same l.table 0 (tour_table l.parents) 0 (l.at + visits (length l.parents) + l.i)
