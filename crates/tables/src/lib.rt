@@ -17,7 +17,7 @@ ghost use Rattle.tree.specs.Ready.{Ready, NumbersIn};
 ghost use Rattle.tables.specs.Check.{Tested, SheetGives, CheckGives, OrderGives};
 ghost use Rattle.tables.specs.Lend.{BuildGives, LentGives};
 
-use tree::{Lent, OwnTables, Refusal};
+use tree::{Lent, OwnTables, Refusal, lower_unfit};
 
 // Checks the sheet `parents`: accepted if it is one rooted tree of at most 16,384 parts, else refused with document 01's number
 // and place. `work` has four cells for each part. It is all zero afterwards, or as it was after refusals 1 to 3.
@@ -32,7 +32,7 @@ pub fn check(parents: &[u16], work: &mut [u16]) -> Result<(), Refusal>
 pub fn admit_sheet(parents: &[u16], further: usize, work: &mut [u16]) -> Result<(), Refusal>
     ensures { SheetGives parents.now further work.old result work.new }
 {
-    let unfit = fits::lower(fits::work_unfit(4 * parents.len(), work.len()), further);
+    let unfit = lower_unfit(fits::work_unfit(4 * parents.len(), work.len()), further);
     admit(parents, unfit, work)
 }
 
@@ -41,7 +41,7 @@ pub fn admit_sheet(parents: &[u16], further: usize, work: &mut [u16]) -> Result<
 pub fn admit_bottom_up(parents: &[u16], further: usize, work: &mut [u16]) -> Result<(), Refusal>
     ensures { OrderGives parents.now further work.old result work.new }
 {
-    let unfit = fits::lower(fits::work_unfit(4 * parents.len(), work.len()), further);
+    let unfit = lower_unfit(fits::work_unfit(4 * parents.len(), work.len()), further);
     test_sizes(parents.len(), unfit)?;
     let r = rooted::test_tree(parents, 0, true, work);
     if r.is_err() {
@@ -64,7 +64,7 @@ pub fn build(
         work.old result label.new tour.new lift.new order.new work.new }
 {
     let n = parents.len();
-    let unfit = fits::first_unfit(
+    let unfit = fits::tables_unfit(
         n,
         label.len(),
         tour.len(),
@@ -99,7 +99,7 @@ pub fn admit_lent<'a>(
     ensures same { IfOk result (λ sheet. sheet ≡ lent.entry.parents.now) }
 {
     let n = lent.parents.len();
-    let own = fits::first_unfit(
+    let own = fits::tables_unfit(
         n,
         lent.label.len(),
         lent.tour.len(),
@@ -108,7 +108,7 @@ pub fn admit_lent<'a>(
         4 * n,
         work.len(),
     );
-    let unfit = fits::lower(own, further);
+    let unfit = lower_unfit(own, further);
     admit(lent.parents, unfit, work)?;
     let found = stale::tables(lent, work);
     cells::clear(work);

@@ -1,6 +1,6 @@
 -- The lowest buffer that does not fit: of one list, of two, and of the buffers of each kind of call.
 -- Assumes nothing.
-use Prim.Native.Nat.{ℕ, ◌%◌, ◌≤◌, ◌<◌}
+use Prim.Native.Nat.{ℕ, suc, ◌+◌, ◌%◌, ◌≤◌, ◌<◌}
 use native.Mathlib.Nat.{le_refl, le_of_eq, le_of_lt, lt_trans, pos_of_ne-zero}
 use native.Mathlib.Omega.{arith}
 use mathlib.Core.Path.{◌≡◌, refl, sym, ap, ◌∙◌, subst}
@@ -10,6 +10,10 @@ use mathlib.Core.List.Memᴰ
 use mathlib.Core.List.{List, [], ◌∷◌, Memᴰ}
 use borrow.Author.Tests.{eq-eqb, ne_eqb, eqb-true, ltb-true, ltb-false}
 use lib.Dec.{lit<, ltb}
+use lib.ListN.{length, get_or, drop}
+use native.Mathlib.Numerals.{add-one}
+use Rattle.std.proofs.Math.Seq.{drop-cons}
+use Rattle.std.proofs.lemmas.List.{drop_all}
 use Rattle.tree.specs.Buffers.{trail_cells, answer_cells, count_cells, total_cells, Fit, first_unfit, lower_unfit, pairs_fits, trail_fits, list_fits, wear_fits}
 use Rattle.tree.proofs.Scans.{by-test, by_equal}
 
@@ -29,6 +33,22 @@ unfit-later b bs e = rw e
 pub unfit-last : (b : Fit) → b.fits ≡ true → first_unfit (b ∷ []) ≡ 0
 unfolding first_unfit
 unfit-last b e = rw e
+
+-- going along a list, where all before place i fit: one that does not fit is the lowest, and one that does leaves it to those after it
+module _ (bs : List Fit) (i : ℕ) (h : i < length bs) (before : first_unfit (drop i bs) ≡ first_unfit bs) where
+  abbrev here : Fit
+  here = get_or bs i (record { buffer = 0; fits = false })
+
+  pub unfit-at : here.fits ≡ false → here.buffer ≡ first_unfit bs
+  unfit-at e = sym (unfit-here here (drop (suc i) bs) e) ∙ ap first_unfit (sym (drop-cons bs i _ h)) ∙ before
+
+  pub unfit-after : here.fits ≡ true → first_unfit (drop (i + 1) bs) ≡ first_unfit bs
+  unfit-after e = rw add-one (sym (unfit-later here (drop (suc i) bs) e) ∙ ap first_unfit (sym (drop-cons bs i _ h)) ∙ before)
+
+-- .. and behind the last place none is named
+pub unfit-none : (bs : List Fit) (i : ℕ) → length bs ≤ i → first_unfit (drop i bs) ≡ first_unfit bs → 0 ≡ first_unfit bs
+unfolding first_unfit
+unfit-none bs i h before = sym (ap first_unfit (drop_all i bs h)) ∙ before
 
 -- each buffer of a list fits
 abbrev pub Fitting : List Fit → Type 0

@@ -3,6 +3,8 @@
 use Rattle.std.specs.Prelude.{ℕ, ◌+◌, ◌-◌, ◌*◌, ◌%◌, ◌/◌, Bool, cond, List, [], ◌∷◌, leb, ltb, eqb, length, replicate}
 use Rattle.bits.specs.Bits.{log2}
 use Rattle.tree.specs.Verdict.{Verdict, accepted, refused}
+-- a lent buffer's number, and whether the buffer has its exact length
+pub use Rattle.tree.specs.declared.fit.Fit.{Fit}
 
 -- "Every cell is an unsigned 16-bit number; 65535 means no cell"
 abbrev pub no_cell : ℕ
@@ -54,11 +56,6 @@ abbrev pub total_cells : ℕ → ℕ
 total_cells n = n
 
 -- ---- fit
-
--- a lent buffer's number, and whether the buffer has its exact length
-pub record Fit : Type 0 where
-  pub buffer : ℕ
-  pub fits : Bool
 
 -- the buffer of this number is to have `want` cells, and has `cells`
 abbrev pub exact_fit : ℕ → ℕ → ℕ → Fit

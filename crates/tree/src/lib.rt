@@ -2,11 +2,13 @@
 
 #![tactic(auto)]
 
+mod fit;
 mod own;
 
 ghost use Rattle.std.specs.Prelude.{◌≡◌};
 ghost use Rattle.tree.specs.Verdict.{number_of, place_of};
 
+pub use fit::{Fit, first_unfit, lower_unfit};
 pub use own::OwnTables;
 
 // Why a call is refused: a case for each row of document 01's table of numbers, in its order. A case that can arise at

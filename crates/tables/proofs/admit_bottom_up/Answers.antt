@@ -21,7 +21,7 @@ unfit c = sheet_unfit c.args.parents.now c.args.work.now c.args.further
 -- the answer to tests 1 to 3
 told : (c : After-test_sizes) → verdict_of c.test_sizes.result ≡ verdict (size_tests (length c.args.parents.now) (unfit c))
 told c =
-    let found = c.lower-unfit.ensures ∙ ap (λ (u : ℕ). lower_unfit u c.args.further) c.work_unfit.ensures in
+    let found = c.lower_unfit-unfit.ensures ∙ ap (λ (u : ℕ). lower_unfit u c.args.further) c.work_unfit.ensures in
     c.test_sizes.ensures ∙ ap (λ (u : ℕ). verdict (size_tests (length c.args.parents.now) u)) found
 
 pub returns-in_err-test_sizes : goal.returns-in_err-test_sizes

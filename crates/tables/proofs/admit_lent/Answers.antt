@@ -17,7 +17,7 @@ use Rattle.tables.specs.Check.{Tested}
 use Rattle.tables.specs.Lend.{LentGives}
 use Rattle.tables.proofs.Lending.{Found, found-tested, found-work, tested-fits}
 use Rattle.tables.proofs.admit_lent.Goals as goal
-use Rattle.tables.proofs.admit_lent.Goals.{Start, After-lower-unfit, After-admit, After-clear}
+use Rattle.tables.proofs.admit_lent.Goals.{Start, After-lower_unfit-unfit, After-admit, After-clear}
 
 -- what is lent, and the lowest buffer that does not fit
 abbrev lent : Start → Lent
@@ -27,14 +27,14 @@ abbrev unfit : Start → ℕ
 unfit c = unfit_of (lent c) c.args.work.now c.args.further
 
 -- what was found of the lengths is the lower of the tables' and work's number and the further one
-found : (c : After-lower-unfit) → Found c.args.lent.parents.now (unfit_of (lent_in c.args.lent) c.args.work.now c.args.further) c.lower-unfit.result
-found c = λ some small. c.lower-unfit.ensures ∙ ap (λ (u : ℕ). lower_unfit u c.args.further) (c.first_unfit-own.ensures some small)
+found : (c : After-lower_unfit-unfit) → Found c.args.lent.parents.now (unfit_of (lent_in c.args.lent) c.args.work.now c.args.further) c.lower_unfit-unfit.result
+found c = λ some small. c.lower_unfit-unfit.ensures ∙ ap (λ (u : ℕ). lower_unfit u c.args.further) (c.tables_unfit-own.ensures some small)
 
 -- tests 1 to 7 of what is there
 tested : (c : After-admit) → Tested c.args.lent.parents.now (unfit_of (lent_in c.args.lent) c.args.work.now c.args.further) c.args.work.now c.admit.result c.admit.new.work
 tested c =
-    found-tested c.args.lent.parents.now (unfit_of (lent_in c.args.lent) c.args.work.now c.args.further) c.lower-unfit.result
-    (λ some small. c.lower-unfit.ensures ∙ ap (λ (u : ℕ). lower_unfit u c.args.further) (c.first_unfit-own.ensures some small))
+    found-tested c.args.lent.parents.now (unfit_of (lent_in c.args.lent) c.args.work.now c.args.further) c.lower_unfit-unfit.result
+    (λ some small. c.lower_unfit-unfit.ensures ∙ ap (λ (u : ℕ). lower_unfit u c.args.further) (c.tables_unfit-own.ensures some small))
     c.admit.ensures
 
 -- .. and 1 to 8, of an answer with the comparison's verdict
@@ -43,14 +43,14 @@ compared : (c : After-clear) {A : Type 0} {q : Result A Refusal} → verdict_of 
 compared c e =
     let same = c.tables-found.auto.work ∙ c.admit.auto.work in
     let passed =
-    found-tested c.args.lent.parents.now (unfit_of (lent_in c.args.lent) c.args.work.now c.args.further) c.lower-unfit.result
-    (λ some small. c.lower-unfit.ensures ∙ ap (λ (u : ℕ). lower_unfit u c.args.further) (c.first_unfit-own.ensures some small))
+    found-tested c.args.lent.parents.now (unfit_of (lent_in c.args.lent) c.args.work.now c.args.further) c.lower_unfit-unfit.result
+    (λ some small. c.lower_unfit-unfit.ensures ∙ ap (λ (u : ℕ). lower_unfit u c.args.further) (c.tables_unfit-own.ensures some small))
     c.admit.ensures in
     stage-on passed _ c.in_ok-admit.was (e ∙ c.tables-found.ensures) (stale-later (lent_in c.args.lent)) (c.clear.ensures ∙ ap (λ k. replicate k 0) same)
 
 pub admit-requires : goal.admit-requires
 admit-requires c =
-    found-work (lent (goal.at.admit-requires c).Start) c.args.work.now c.args.further _ (found (goal.at.admit-requires c).After-lower-unfit)
+    found-work (lent (goal.at.admit-requires c).Start) c.args.work.now c.args.further _ (found (goal.at.admit-requires c).After-lower_unfit-unfit)
 
 pub returns-in_err-admit-clause-gives : goal.returns-in_err-admit-clause-gives
 returns-in_err-admit-clause-gives c =
@@ -59,7 +59,7 @@ returns-in_err-admit-clause-gives c =
 
 pub tables-found-requires : goal.tables-found-requires
 tables-found-requires c =
-    tested-fits (lent (goal.at.tables-found-requires c).Start) _ _ c.args.further _ (found (goal.at.tables-found-requires c).After-lower-unfit)
+    tested-fits (lent (goal.at.tables-found-requires c).Start) _ _ c.args.further _ (found (goal.at.tables-found-requires c).After-lower_unfit-unfit)
     c.admit.ensures c.in_ok-admit.was c.admit.auto.work
 
 pub returns-in_err-found-clause-gives : goal.returns-in_err-found-clause-gives
