@@ -170,18 +170,3 @@ module _ (s : List ℕ) (accepts : Accepted s) where
       → part_verdict (own s) work part ≡ verdict (node_out_of_range s 0 (part ∷ []) ∷ [])
   part-decides work part room =
       accepted-on (lent_tests (own s) (unfit_of (own s) work 0)) (node_out_of_range s 0 (part ∷ []) ∷ []) (own-accepted work 0 room refl)
-
--- ---- the tables of a sheet that is lent with its own
-
-module _ {t : Lent} (e : t ≡ own t.parents) where
-  pub own_label : t.label ≡ label_table t.parents
-  own_label = ap (λ (l : Lent). l.label) e
-
-  pub own_tour : t.tour ≡ tour_table t.parents
-  own_tour = ap (λ (l : Lent). l.tour) e
-
-  pub own_lift : t.lift ≡ lift_table t.parents
-  own_lift = ap (λ (l : Lent). l.lift) e
-
-  pub own_order : t.order ≡ preorder t.parents
-  own_order = ap (λ (l : Lent). l.order) e
