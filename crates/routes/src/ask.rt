@@ -1,6 +1,6 @@
 // What a question is tested for before it is answered.
 
-ghost use Rattle.std.specs.Prelude.{◌≡◌, IfOk};
+ghost use Rattle.std.specs.Prelude.{◌≡◌, length, IfOk};
 ghost use Rattle.tree.specs.Verdict.{verdict_of};
 ghost use Rattle.tree.specs.Tests.{verdict, question_tests};
 ghost use Rattle.tree.specs.Buffers.{pairs_fits, trail_fits, list_fits, first_unfit};
@@ -9,7 +9,7 @@ ghost use Rattle.tree.specs.Nodes.{Small};
 ghost use Rattle.routes.specs.Answers.{Admitted};
 
 use crate::ANSWER_CELLS;
-use tree::{Lent, OwnTables, Refusal};
+use tree::{Fit, Lent, OwnTables, Refusal, first_unfit};
 
 // The numbers of the buffers.
 const QUESTION: usize = 5;
@@ -48,44 +48,33 @@ fn test_question(parents: &[u16], question: &[u16]) -> Result<(), Refusal>
     Ok(())
 }
 
-// The lowest further buffer of a call for pairs that does not fit, by its length, or 0.
-pub(crate) fn pairs_unfit(question: usize, answer: usize) -> usize
-    ensures { result ≡ first_unfit (pairs_fits question answer) }
+// The lowest further buffer of a call for pairs that does not fit, or 0.
+pub(crate) fn pairs_unfit(question: &[u16], answer: &[u16]) -> usize
+    ensures { result ≡ first_unfit (pairs_fits (length question.now) (length answer.now)) }
 {
-    if question % 2 != 0 {
-        return QUESTION;
-    }
-    if answer % ANSWER_CELLS != 0 {
-        return ANSWER;
-    }
-    if answer / ANSWER_CELLS != question / 2 {
-        return ANSWER;
-    }
-    0
+    first_unfit(&[
+        Fit {
+            buffer: QUESTION,
+            fits: question.len() % 2 == 0,
+        },
+        Fit::exact(ANSWER, question.len() / 2 * ANSWER_CELLS, answer.len()),
+    ])
 }
 
 // The same of a call for a trail.
-pub(crate) fn trail_unfit(question: usize, answer: usize, rows: usize) -> usize
-    ensures { result ≡ first_unfit (trail_fits question answer rows) }
+pub(crate) fn trail_unfit(question: &[u16], answer: &[u16], rows: &[u16]) -> usize
+    ensures { result ≡ first_unfit (trail_fits (length question.now) (length answer.now) (length rows.now)) }
 {
-    if question != 2 {
-        return QUESTION;
-    }
-    if answer != 1 {
-        return ANSWER;
-    }
-    if rows != 64 {
-        return TRAIL;
-    }
-    0
+    first_unfit(&[
+        Fit::exact(QUESTION, 2, question.len()),
+        Fit::exact(ANSWER, 1, answer.len()),
+        Fit::exact(TRAIL, 64, rows.len()),
+    ])
 }
 
 // The same of a call for a list.
-pub(crate) fn list_unfit(answer: usize) -> usize
-    ensures { result ≡ first_unfit (list_fits answer) }
+pub(crate) fn list_unfit(answer: &[u16]) -> usize
+    ensures { result ≡ first_unfit (list_fits (length answer.now)) }
 {
-    if answer != 1 {
-        return ANSWER;
-    }
-    0
+    first_unfit(&[Fit::exact(ANSWER, 1, answer.len())])
 }

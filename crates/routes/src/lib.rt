@@ -80,7 +80,7 @@ pub fn pairs(
         (asked_by (lent_in lent.entry) work.old question.now answer.old)
         result work.new answer.new }
 {
-    let unfit = ask::pairs_unfit(question.len(), answer.len());
+    let unfit = ask::pairs_unfit(question, answer);
     let sheet = ask::admit(lent, work, question, unfit)?;
     answer::pairs(route, &sheet, question, answer);
     Ok(())
@@ -99,7 +99,7 @@ pub fn trail(
         (asked_by (lent_in lent.entry) work.old question.now answer.old)
         rows.old result work.new answer.new rows.new }
 {
-    let unfit = ask::trail_unfit(question.len(), answer.len(), rows.len());
+    let unfit = ask::trail_unfit(question, answer, rows);
     let sheet = ask::admit(lent, work, question, unfit)?;
     Ok(answer::trail(&sheet, question, answer, rows))
 }
@@ -115,7 +115,7 @@ pub fn list(
         (asked_by (lent_in lent.entry) work.old question.now answer.old)
         result work.new answer.new }
 {
-    let unfit = ask::list_unfit(answer.len());
+    let unfit = ask::list_unfit(answer);
     let sheet = ask::admit(lent, work, question, unfit)?;
     answer::list(&sheet, question, answer);
     Ok(())

@@ -1,13 +1,16 @@
 -- The first and the last of a list in preorder, found by a scan of the list: what is left of it decides.
 -- Assumes nothing.
-use Prim.Native.Nat.{ℕ, ◌+◌, ◌≤◌, ◌<◌}
-use native.Mathlib.Nat.{not-suc-le-zero}
+use Prim.Native.Nat.{ℕ, ◌+◌, ◌-◌, ◌≤◌, ◌<◌}
+use native.Mathlib.Omega.{arith}
+use native.Mathlib.Nat.{add_comm, not-suc-le-zero}
 use native.Mathlib.Numerals.{add-one}
 use mathlib.Core.Path.{◌≡◌, refl, sym, ◌∙◌}
 use mathlib.Core.Bool.{Bool, true, false, cond}
 use mathlib.Core.List.{List, [], ◌∷◌}
 use lib.Dec.{ltb}
-use lib.ListN.{length, get_or, drop, drop_of_length-le}
+use lib.ListN.{length, get_or, take, drop, drop_of_length-le}
+use Rattle.std.proofs.lemmas.Grind.{common_steps}
+use Rattle.std.proofs.lemmas.List.{get_or-drop, length-take, length-drop}
 use lib.Seq.{drop-cons}
 use Rattle.tree.specs.Scan.{best_from, best}
 use Rattle.tree.specs.Preorder.{preorder_number}
@@ -34,6 +37,20 @@ module _ (better : ℕ → ℕ → Bool) (q : List ℕ) where
   best-end : (b i : ℕ) → length q ≤ i → best_from better b (drop i q) ≡ b
   unfolding best_from
   best-end b i h = rw (drop_of_length-le q h)
+
+-- the members after the first, and one of them
+after-first : (q : List ℕ) → take (length q - 1) (drop 1 q) ≡ drop 1 q
+after-first q = grind (arith, common_steps)
+
+pub record Member (q : List ℕ) (i : ℕ) : Type 0 where
+  pub inside : i + 1 < length q
+  pub is : get_or (take (length q - 1) (drop 1 q)) i 0 ≡ get_or q (i + 1) 0
+
+pub member : (q : List ℕ) (i : ℕ) → i < length (take (length q - 1) (drop 1 q)) → Member q i
+member q i h = record {
+  inside = omega (arith, length-take {A = ℕ}, length-drop {A = ℕ});
+  is = rw after-first (get_or-drop 1 q i 0 ∙ rw add_comm);
+}
 
 -- ---- both ends of a list
 

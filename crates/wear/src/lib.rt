@@ -10,7 +10,7 @@ ghost use Rattle.std.specs.Prelude.{◌≡◌};
 ghost use Rattle.tree.specs.Buffers.{wear_fits, first_unfit};
 ghost use Rattle.wear.specs.Totals.{TotalsGive};
 
-use tree::Refusal;
+use tree::{Fit, Refusal, first_unfit};
 
 // The numbers of the buffers.
 const COUNTS: usize = 9;
@@ -27,23 +27,14 @@ pub fn totals(
     ensures { TotalsGive parents.now work.old counts.now totals.old
         result totals.new work.new }
 {
-    let unfit = first_unfit(parents.len(), counts.len(), totals.len());
+    let n = parents.len();
+    let unfit = first_unfit(&[
+        Fit::exact(COUNTS, n, counts.len()),
+        Fit::exact(TOTALS, n, totals.len()),
+    ]);
     tables::admit_bottom_up(parents, unfit, work)?;
     sums::widen(counts, totals);
     sums::add_up(parents, work, totals);
     cells::clear(work);
     Ok(())
-}
-
-// The lowest of counts and totals that does not fit, by their lengths, for a sheet of n parts; 0 where both fit.
-fn first_unfit(n: usize, counts: usize, totals: usize) -> usize
-    ensures { result ≡ first_unfit (wear_fits n counts totals) }
-{
-    if counts != n {
-        return COUNTS;
-    }
-    if totals != n {
-        return TOTALS;
-    }
-    0
 }

@@ -11,21 +11,16 @@ use Rattle.rules.proofs.branch.Goals as goal
 use Rattle.rules.proofs.branch.Goals.{After-back-at}
 
 -- the node that is visited before
-node-before : (c : After-back-at) → Visited c.args.parents.now c.args.tour.now (c.back-at.result - 1)
+node-before : (c : After-back-at) → Visited c.args.sheet.now c.tour-tour.result.now (c.back-at.result - 1)
 node-before c =
     let p = c.requires in
     let t = p.0.tree in
-    visited t p.4 (omega (arith, back_inside t p.1 p.2 c.back-at.ensures))
+    visited t c.tour-tour.ensures (omega (arith, back_inside t p.1 p.2 c.back-at.ensures))
 
 pub returns-then-x-c : goal.returns-then-x-c
 returns-then-x-c c =
     let p = c.requires in
     record { is = branch-is p.0.tree p.1 p.2 (branch-itself _ c.if-x-c.true); below = ancestor-inside p.0.tree.inside p.1 p.2 }
-
-pub back-at-requires : goal.back-at-requires
-back-at-requires c =
-    let p = c.requires in
-    (record { small = p.0; node = p.1; carries = p.2; other = c.if-x-c.false }, p.3, p.4)
 
 pub returns : goal.returns
 returns c =
