@@ -1,7 +1,7 @@
 // The sparse rows of the tour table. A row after the first is made from the row before it and the levels at that row's positions, which stand in the halves
 // of work by turns. No branch in the loops that go over a row.
 
-ghost use Rattle.std.specs.Prelude.{◌≡◌, true, ◌+◌, ◌-◌, ◌*◌, ◌<◌, length};
+ghost use Rattle.std.specs.Prelude.{◌≡◌, true, cond, ◌+◌, ◌-◌, ◌*◌, ◌<◌, ltb, length};
 ghost use Rattle.tree.specs.Buffers.{visits, tour_cells};
 ghost use Rattle.tree.specs.Tour.{tour_table};
 ghost use Rattle.tree.specs.Ready.{Columns, TourIn, TourOwn};
@@ -70,24 +70,27 @@ impl Row {
         end
     }
 
-    // Cell i of the row after it: of the positions of two blocks side by side, the one of lesser level, the left one at equal levels. All four cells are read
-    // before the choice, so that it is a value, not a branch.
+    // Cell i of the row after it: of the positions of two blocks side by side, the one of lesser level.
     fn chosen(self, table: &[u16], work: &[u16], i: usize) -> u16
         requires row { self.at + i + self.half < length table.now }
         requires levels { self.from + i + self.half < length work.now }
         ensures { result ≡ chosen table.now work.now self.at self.half self.from i }
     {
         let Row { at, half, from } = self;
-        let left = table[at + i];
-        let right = table[at + i + half];
-        let left_level = work[from + i];
-        let right_level = work[from + i + half];
-        if right_level < left_level {
-            right
-        } else {
-            left
-        }
+        leftmost(
+            table[at + i],
+            work[from + i],
+            table[at + i + half],
+            work[from + i + half],
+        )
     }
+}
+
+// Of two positions, at levels i and j, the one of lesser level, the left one at equal levels. It is given all four, so that the choice is a value, not a branch.
+fn leftmost(left: u16, i: u16, right: u16, j: u16) -> u16
+    ensures { result ≡ cond (ltb j i) right left }
+{
+    if j < i { right } else { left }
 }
 
 // The row after the one at `at` of the tour table, whose blocks have `half` cells, into the table. The levels at that row's positions stand in
