@@ -22,7 +22,7 @@ tested : (c : After-admit_bottom_up) →
 tested c =
     let a = c.args in
     subst (λ (u : ℕ). OrderGives a.parents.now u a.work.now c.admit_bottom_up.result c.admit_bottom_up.new.work)
-    c.first_unfit-unfit.ensures c.admit_bottom_up.ensures
+    (rw (c.exact.ensures, c.exact-2.ensures) at c.first_unfit-unfit.ensures) c.admit_bottom_up.ensures
 
 -- what is known of an accepted call
 grants : (c : In_ok-admit_bottom_up) → Granted c.args.parents.now c.args.work.now c.args.counts.now c.args.totals.now
@@ -32,7 +32,7 @@ grants c =
     c.args.work.now
     c.admit_bottom_up.result c.admit_bottom_up.new.work) =
     (subst (λ (u : ℕ). OrderGives c.args.parents.now u c.args.work.now c.admit_bottom_up.result c.admit_bottom_up.new.work)
-    c.first_unfit-unfit.ensures c.admit_bottom_up.ensures) in
+    (rw (c.exact.ensures, c.exact-2.ensures) at c.first_unfit-unfit.ensures) c.admit_bottom_up.ensures) in
     let a = c.args in
     totals-granted a.parents.now a.work.now a.counts.now a.totals.now tested c.in_ok-admit_bottom_up.was
 
