@@ -4,165 +4,167 @@
 // 'p' asks for pairs by each route, 'r' for the rows of a pair's trail, 'm' for the carrier of many parts, 's' for the subtree of each part. Before a
 // call all it may write holds sevens.
 
-use crate::{damage, lend, print, shape, subtree, trail};
+use crate::lend::{Buffers, Tables};
+use crate::print::{Answered, places, some};
+use crate::{BEFORE, damage, lend, subtree, trail};
+use std::io;
+use std::io::{Print, Stdout};
 use tree::Outcome;
 
-// Parts the numbers of a line.
-pub fn run(
-    kind: u8,
-    numbers: &[u16],
-    label: &mut [u16],
-    tour: &mut [u16],
-    lift: &mut [u16],
-    order: &mut [u16],
-    work: &mut [u16],
-) {
-    if numbers.len() < 4 {
-        print::text(b"too few numbers\n");
-        return;
-    }
-    let cells = lend::wide(numbers[0]);
-    let rows = lend::wide(numbers[1]);
-    let mid = 4 + lend::wide(numbers[2]);
-    let end = mid + lend::wide(numbers[3]);
-    if numbers.len() < end {
-        print::text(b"too few numbers\n");
-        return;
-    }
-    let question = &numbers[4..mid];
-    let places = &numbers[mid..end];
-    let parents = &numbers[end..];
-    prepare(parents, places, label, tour, lift, order, work);
-    print::asked(cells, rows, places, question);
-    ask_kind(
-        kind, cells, rows, question, parents, label, tour, lift, order, work,
-    );
+// What a line asks for.
+#[derive(Clone, Copy)]
+pub enum Kind {
+    Pairs,
+    Trail,
+    Many,
+    Subtrees,
 }
 
-// Prints a sheet and what is lent, builds the sheet's tables, and changes the cells at some places.
-fn prepare(
-    parents: &[u16],
-    places: &[u16],
-    label: &mut [u16],
-    tour: &mut [u16],
-    lift: &mut [u16],
-    order: &mut [u16],
+// A question, with the cells of answer and of trail that are lent for it.
+#[derive(Clone, Copy)]
+pub struct Question<'a> {
+    pub cells: usize,
+    pub rows: usize,
+    pub parts: &'a [u16],
+}
+
+// A call that answers.
+#[derive(Clone, Copy)]
+pub enum Call {
+    Labels,
+    Tour,
+    Lifts,
+    List,
+}
+
+impl Call {
+    fn name(self) -> &'static str {
+        match self {
+            Call::Labels => "labels",
+            Call::Tour => "tour",
+            Call::Lifts => "lifts",
+            Call::List => "list",
+        }
+    }
+}
+
+// Parts the numbers of a line, builds the sheet's tables, changes the cells at some places, and asks.
+pub fn run(
+    out: Stdout,
+    kind: Kind,
+    numbers: &[u16],
+    buffers: &mut Buffers,
     work: &mut [u16],
-) {
-    print::entries(parents);
-    print::lent(label.len(), tour.len(), lift.len(), order.len(), work.len());
-    tables::build(parents, label, tour, lift, order, work);
-    damage::all(places, label, tour, lift, order);
+) -> io::Result<()> {
+    let [cells, rows, asked, damaged, rest @ ..] = numbers else {
+        return println!(out; "too few numbers");
+    };
+    let Some((parts, rest)) = rest.split_at_checked(usize::from(*asked)) else {
+        return println!(out; "too few numbers");
+    };
+    let Some((changed, parents)) = rest.split_at_checked(usize::from(*damaged)) else {
+        return println!(out; "too few numbers");
+    };
+    let cells = usize::from(*cells);
+    let rows = usize::from(*rows);
+    tables::build(
+        parents,
+        buffers.label,
+        buffers.tour,
+        buffers.lift,
+        buffers.order,
+        work,
+    );
+    damage::all(changed, buffers);
+    let tables = buffers.tables(parents);
+    lend::lent(out, tables, work)?;
+    let asked = Question { cells, rows, parts };
+    put_question(out, asked, changed)?;
+    ask_kind(out, kind, asked, tables, work)
+}
+
+// Prints how many cells of answer and trail are lent, where the tables are damaged, and what is asked.
+fn put_question(out: Stdout, asked: Question, changed: &[u16]) -> io::Result<()> {
+    print!(out; " {} {}", asked.cells, asked.rows)?;
+    if !changed.is_empty() {
+        print!(out; ", damaged at {}", places(changed))?;
+    }
+    println!(out; ", asked {}", some(asked.parts))
 }
 
 // Asks what the kind of a line says.
 fn ask_kind(
-    kind: u8,
-    cells: usize,
-    rows: usize,
-    question: &[u16],
-    parents: &[u16],
-    label: &[u16],
-    tour: &[u16],
-    lift: &[u16],
-    order: &[u16],
+    out: Stdout,
+    kind: Kind,
+    asked: Question,
+    tables: Tables,
     work: &mut [u16],
-) {
+) -> io::Result<()> {
     match kind {
-        b'p' => pairs(cells, question, parents, label, tour, lift, order, work),
-        b'r' => trail::ask(
-            cells, rows, question, parents, label, tour, lift, order, work,
-        ),
-        b's' => subtree::each(question, parents, label, tour, lift, order, work),
-        _ => ask(
-            b'm', cells, question, parents, label, tour, lift, order, work,
-        ),
+        Kind::Pairs => pairs(out, asked, tables, work),
+        Kind::Trail => trail::ask(out, asked, tables, work),
+        Kind::Many => ask(out, Call::List, asked, tables, work),
+        Kind::Subtrees => subtree::each(out, asked.parts, tables, work),
     }
 }
 
 // Asks for pairs by each of the three routes.
-pub fn pairs(
-    cells: usize,
-    asked: &[u16],
-    parents: &[u16],
-    label: &[u16],
-    tour: &[u16],
-    lift: &[u16],
-    order: &[u16],
-    work: &mut [u16],
-) {
-    ask(b'l', cells, asked, parents, label, tour, lift, order, work);
-    ask(b't', cells, asked, parents, label, tour, lift, order, work);
-    ask(b'f', cells, asked, parents, label, tour, lift, order, work);
+pub fn pairs(out: Stdout, asked: Question, tables: Tables, work: &mut [u16]) -> io::Result<()> {
+    for route in [Call::Labels, Call::Tour, Call::Lifts] {
+        ask(out, route, asked, tables, work)?;
+    }
+    Ok(())
 }
 
-// Asks one call, with an answer of so many cells: up to 768, those of 256 pairs.
+// Asks one call, with an answer of up to 768 cells, those of 256 pairs, and prints a line.
 pub fn ask(
-    way: u8,
-    cells: usize,
-    question: &[u16],
-    parents: &[u16],
-    label: &[u16],
-    tour: &[u16],
-    lift: &[u16],
-    order: &[u16],
+    out: Stdout,
+    call: Call,
+    asked: Question,
+    tables: Tables,
     work: &mut [u16],
-) {
-    let mut answer = [7u16; 768];
-    if 768 < cells {
-        print::text(b"too many cells\n");
-        return;
+) -> io::Result<()> {
+    let mut answer = [BEFORE; 768];
+    if answer.len() < asked.cells {
+        return println!(out; "too many cells");
     }
-    answer_in(
-        way,
-        question,
+    let answer = &mut answer[..asked.cells];
+    work.fill(BEFORE);
+    let outcome = answer_in(call, asked.parts, tables, work, answer);
+    println!(out;
+        "  {}{}",
+        call.name(),
+        Answered {
+            outcome,
+            work,
+            answer
+        }
+    )
+}
+
+// Makes the call.
+fn answer_in(
+    call: Call,
+    parts: &[u16],
+    tables: Tables,
+    work: &mut [u16],
+    answer: &mut [u16],
+) -> Outcome {
+    let Tables {
         parents,
         label,
         tour,
         lift,
         order,
-        work,
-        &mut answer[0..cells],
-    );
-}
-
-// Asks one call and prints a line.
-fn answer_in(
-    way: u8,
-    question: &[u16],
-    parents: &[u16],
-    label: &[u16],
-    tour: &[u16],
-    lift: &[u16],
-    order: &[u16],
-    work: &mut [u16],
-    answer: &mut [u16],
-) {
-    shape::fill(work, 7);
-    let r = call(
-        way, question, parents, label, tour, lift, order, work, answer,
-    );
-    print::way(way);
-    print::answered(r, work, answer);
-    print::text(b"\n");
-}
-
-// One of the calls that answer.
-fn call(
-    way: u8,
-    question: &[u16],
-    parents: &[u16],
-    label: &[u16],
-    tour: &[u16],
-    lift: &[u16],
-    order: &[u16],
-    work: &mut [u16],
-    answer: &mut [u16],
-) -> Outcome {
-    match way {
-        b'l' => routes::pairs_by_labels(parents, label, tour, lift, order, work, question, answer),
-        b't' => routes::pairs_by_tour(parents, label, tour, lift, order, work, question, answer),
-        b'f' => routes::pairs_by_lifts(parents, label, tour, lift, order, work, question, answer),
-        _ => routes::list(parents, label, tour, lift, order, work, question, answer),
+    } = tables;
+    match call {
+        Call::Labels => routes::pairs_by_labels(
+            parents, label, tour, lift, order, work, parts, answer,
+        ),
+        Call::Tour => routes::pairs_by_tour(parents, label, tour, lift, order, work, parts, answer),
+        Call::Lifts => routes::pairs_by_lifts(
+            parents, label, tour, lift, order, work, parts, answer,
+        ),
+        Call::List => routes::list(parents, label, tour, lift, order, work, parts, answer),
     }
 }

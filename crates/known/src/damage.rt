@@ -1,58 +1,41 @@
-// Tables that are damaged: a cell is changed to the next number.
+// Tables that are damaged: a cell is changed to the next number, 0 after 65535.
+
+use crate::lend::Buffers;
 
 // Changes the cells at some places, counted from 0 over the four tables end to end.
-pub fn all(
-    places: &[u16],
-    label: &mut [u16],
-    tour: &mut [u16],
-    lift: &mut [u16],
-    order: &mut [u16],
-) {
-    let mut i = 0;
-    while i < places.len() {
-        one(places[i], label, tour, lift, order);
-        i += 1;
+pub fn all(places: &[u16], buffers: &mut Buffers) {
+    for place in places {
+        one(usize::from(*place), buffers);
     }
 }
 
 // Changes the cell at one place, if there is that cell.
-fn one(place: u16, label: &mut [u16], tour: &mut [u16], lift: &mut [u16], order: &mut [u16]) {
-    let at = place as usize;
-    if at < label.len() {
-        cell(label, at);
+fn one(place: usize, buffers: &mut Buffers) {
+    let Err(past) = cell(buffers.label, place) else {
         return;
-    }
-    let past = at - label.len();
-    if past < tour.len() {
-        cell(tour, past);
+    };
+    let Err(past) = cell(buffers.tour, past) else {
         return;
-    }
-    let rest = past - tour.len();
-    if rest < lift.len() {
-        cell(lift, rest);
+    };
+    let Err(past) = cell(buffers.lift, past) else {
         return;
-    }
-    cell(order, rest - lift.len());
+    };
+    let _ = cell(buffers.order, past);
 }
 
-// Changes one cell of a table, if there is that cell.
-pub fn cell(table: &mut [u16], at: usize) {
+// Changes one cell of a table, or says how far behind the table it is.
+pub fn cell(table: &mut [u16], at: usize) -> Result<(), usize> {
     if at < table.len() {
-        table[at] = next(table[at]);
+        table[at] = table[at].wrapping_add(1);
+        Ok(())
+    } else {
+        Err(at - table.len())
     }
 }
 
 // Changes the last cell of a table, if it has one.
 pub fn last(table: &mut [u16]) {
-    if 0 < table.len() {
-        cell(table, table.len() - 1);
+    if let Some(cell) = table.last_mut() {
+        *cell = cell.wrapping_add(1);
     }
-}
-
-// The next number, 0 after 65535.
-fn next(x: u16) -> u16 {
-    if x == 65535 {
-        return 0;
-    }
-    x + 1
 }

@@ -3,252 +3,264 @@
 // the cells at some places and compares; 'g' builds them, puts given numbers into the order table and compares; 'o' builds the tables of one
 // sheet and compares them with another; 'c' compares the sevens. Lines of ask.rt begin with the same five numbers.
 
-ghost use Rattle.std.specs.Prelude.{◌<◌};
-
-use crate::{ask, damage, print, shape};
+use crate::print::{Numbers, Verdict, Work, entries, holds, places, some};
+use crate::{BEFORE, ask, damage};
+use std::io;
+use std::io::{Print, Stdout};
 use tree::Outcome;
 
-// Runs a line of a kind of this file or of ask.rt.
-pub fn run(kind: u8, numbers: &[u16]) {
-    let mut label = [7u16; 192];
-    let mut tour = [7u16; 480];
-    let mut lift = [7u16; 192];
-    let mut order = [7u16; 32];
-    let mut work = [7u16; 128];
-    lend(
-        kind, numbers, &mut label, &mut tour, &mut lift, &mut order, &mut work,
-    );
+// What is done with the buffers that a line lends.
+#[derive(Clone, Copy)]
+pub enum Kind {
+    Build,
+    Damaged,
+    Given,
+    Other,
+    Sevens,
+    Ask(ask::Kind),
 }
 
-// A number that may be an index.
-pub fn wide(x: u16) -> usize
-    ensures { result < 65536 }
-{
-    x as usize
-}
-
-// Lends as many cells of each buffer as the line says.
-fn lend(
-    kind: u8,
-    numbers: &[u16],
-    label: &mut [u16],
-    tour: &mut [u16],
-    lift: &mut [u16],
-    order: &mut [u16],
-    work: &mut [u16],
-) {
-    if numbers.len() < 5 {
-        print::text(b"too few numbers\n");
-        return;
+impl Kind {
+    // The kind of a line that begins with a letter.
+    pub fn of(letter: u8) -> Option<Kind> {
+        match letter {
+            b't' => Some(Kind::Build),
+            b'd' => Some(Kind::Damaged),
+            b'g' => Some(Kind::Given),
+            b'o' => Some(Kind::Other),
+            b'c' => Some(Kind::Sevens),
+            b'p' => Some(Kind::Ask(ask::Kind::Pairs)),
+            b'r' => Some(Kind::Ask(ask::Kind::Trail)),
+            b'm' => Some(Kind::Ask(ask::Kind::Many)),
+            b's' => Some(Kind::Ask(ask::Kind::Subtrees)),
+            _ => None,
+        }
     }
-    let l = wide(numbers[0]);
-    let t = wide(numbers[1]);
-    let f = wide(numbers[2]);
-    let o = wide(numbers[3]);
-    let w = wide(numbers[4]);
+}
+
+// The buffers that are lent to be filled with the four tables.
+#[derive(Drop)]
+pub struct Buffers<'a> {
+    pub label: &'a mut [u16],
+    pub tour: &'a mut [u16],
+    pub lift: &'a mut [u16],
+    pub order: &'a mut [u16],
+}
+
+impl Buffers<'_> {
+    // A sheet with what the buffers hold.
+    pub fn tables<'b>(&'b self, parents: &'b [u16]) -> Tables<'b> {
+        Tables {
+            parents,
+            label: self.label,
+            tour: self.tour,
+            lift: self.lift,
+            order: self.order,
+        }
+    }
+
+    // Whether the tables are as they were, all sevens.
+    fn are_kept(&self) -> bool {
+        holds(self.label, BEFORE)
+            && holds(self.tour, BEFORE)
+            && holds(self.lift, BEFORE)
+            && holds(self.order, BEFORE)
+    }
+}
+
+// A sheet, and the four tables that are lent with it.
+#[derive(Clone, Copy)]
+pub struct Tables<'a> {
+    pub parents: &'a [u16],
+    pub label: &'a [u16],
+    pub tour: &'a [u16],
+    pub lift: &'a [u16],
+    pub order: &'a [u16],
+}
+
+// Lends as many cells of each buffer as a line says, and runs it.
+pub fn run(out: Stdout, kind: Kind, numbers: &[u16]) -> io::Result<()> {
+    let mut label = [BEFORE; 192];
+    let mut tour = [BEFORE; 480];
+    let mut lift = [BEFORE; 192];
+    let mut order = [BEFORE; 32];
+    let mut work = [BEFORE; 128];
+    let [l, t, f, o, w, rest @ ..] = numbers else {
+        return println!(out; "too few numbers");
+    };
+    let l = usize::from(*l);
+    let t = usize::from(*t);
+    let f = usize::from(*f);
+    let o = usize::from(*o);
+    let w = usize::from(*w);
     if label.len() < l || tour.len() < t || lift.len() < f || order.len() < o || work.len() < w {
-        print::text(b"too many cells\n");
-        return;
+        return println!(out; "too many cells");
     }
-    let rest = &numbers[5..];
-    run_kind(
-        kind,
-        rest,
-        &mut label[..l],
-        &mut tour[..t],
-        &mut lift[..f],
-        &mut order[..o],
-        &mut work[..w],
-    );
+    let mut buffers = Buffers {
+        label: &mut label[..l],
+        tour: &mut tour[..t],
+        lift: &mut lift[..f],
+        order: &mut order[..o],
+    };
+    run_kind(out, kind, rest, &mut buffers, &mut work[..w])
 }
 
-// Runs a line of one of these kinds on the cells that are lent.
+// Runs a line on the cells that are lent.
 fn run_kind(
-    kind: u8,
+    out: Stdout,
+    kind: Kind,
     numbers: &[u16],
-    label: &mut [u16],
-    tour: &mut [u16],
-    lift: &mut [u16],
-    order: &mut [u16],
+    buffers: &mut Buffers,
     work: &mut [u16],
-) {
+) -> io::Result<()> {
     match kind {
-        b't' => build(numbers, label, tour, lift, order, work),
-        b'd' => damaged(numbers, label, tour, lift, order, work),
-        b'g' => given(numbers, label, tour, lift, order, work),
-        b'o' => other(numbers, label, tour, lift, order, work),
-        b'c' => sevens(numbers, label, tour, lift, order, work),
-        _ => ask::run(kind, numbers, label, tour, lift, order, work),
+        Kind::Build => build(out, numbers, buffers, work),
+        Kind::Damaged => damaged(out, numbers, buffers, work),
+        Kind::Given => given(out, numbers, buffers, work),
+        Kind::Other => other(out, numbers, buffers, work),
+        Kind::Sevens => sevens(out, buffers.tables(numbers), work),
+        Kind::Ask(kind) => ask::run(out, kind, numbers, buffers, work),
     }
+}
+
+// Prints a sheet, and how many cells of the tables and of work are lent with it.
+pub fn lent(out: Stdout, tables: Tables, work: &[u16]) -> io::Result<()> {
+    let Tables {
+        parents,
+        label,
+        tour,
+        lift,
+        order,
+    } = tables;
+    print!(out;
+        "{} with {} {} {} ",
+        entries(parents),
+        label.len(),
+        tour.len(),
+        lift.len()
+    )?;
+    print!(out; "{} {}", order.len(), work.len())
 }
 
 // Builds the tables of a sheet, and prints those of an accepted one.
-fn build(
-    parents: &[u16],
-    label: &mut [u16],
-    tour: &mut [u16],
-    lift: &mut [u16],
-    order: &mut [u16],
-    work: &mut [u16],
-) {
-    print::entries(parents);
-    print::lent(label.len(), tour.len(), lift.len(), order.len(), work.len());
-    let r = built(parents, label, tour, lift, order, work);
+fn build(out: Stdout, parents: &[u16], buffers: &mut Buffers, work: &mut [u16]) -> io::Result<()> {
+    lent(out, buffers.tables(parents), work)?;
+    let r = built(out, parents, buffers, work)?;
     let Outcome::Accepted = r else {
-        return;
+        return Ok(());
     };
-    table(b"  label: ", label);
-    table(b"  tour: ", tour);
-    table(b"  lift: ", lift);
-    table(b"  order: ", order);
+    println!(out; "  label: {}", Numbers(buffers.label, ""))?;
+    println!(out; "  tour: {}", Numbers(buffers.tour, ""))?;
+    println!(out; "  lift: {}", Numbers(buffers.lift, ""))?;
+    println!(out; "  order: {}", Numbers(buffers.order, ""))
 }
 
 // Builds the tables of a sheet, and prints the rest of the line.
 pub fn built(
+    out: Stdout,
     parents: &[u16],
-    label: &mut [u16],
-    tour: &mut [u16],
-    lift: &mut [u16],
-    order: &mut [u16],
+    buffers: &mut Buffers,
     work: &mut [u16],
-) -> Outcome {
-    shape::fill(work, 7);
-    let r = tables::build(parents, label, tour, lift, order, work);
-    print::verdict(r);
-    print::after(work);
-    became(label, tour, lift, order);
-    r
-}
-
-// Whether the tables are as they were, all sevens.
-fn became(label: &[u16], tour: &[u16], lift: &[u16], order: &[u16]) {
-    if print::all(label, 7) && print::all(tour, 7) && print::all(lift, 7) && print::all(order, 7) {
-        print::text(b", tables kept\n");
-    } else {
-        print::text(b", tables filled\n");
-    }
-}
-
-// A line with all cells of a table.
-fn table(name: &[u8], cells: &[u16]) {
-    print::text(name);
-    print::list(cells);
-    print::text(b"\n");
+) -> io::Result<Outcome> {
+    work.fill(BEFORE);
+    let r = tables::build(
+        parents,
+        buffers.label,
+        buffers.tour,
+        buffers.lift,
+        buffers.order,
+        work,
+    );
+    let tables = if buffers.are_kept() { "kept" } else { "filled" };
+    println!(out; "{}{}, tables {tables}", Verdict(r), Work(work))?;
+    Ok(r)
 }
 
 // Compares the tables of a sheet with it, the cells at some places changed; the places stand behind their count, before the entries.
 fn damaged(
+    out: Stdout,
     numbers: &[u16],
-    label: &mut [u16],
-    tour: &mut [u16],
-    lift: &mut [u16],
-    order: &mut [u16],
+    buffers: &mut Buffers,
     work: &mut [u16],
-) {
-    if numbers.len() == 0 {
-        print::text(b"too few numbers\n");
-        return;
-    }
-    let end = wide(numbers[0]) + 1;
-    if numbers.len() < end {
-        print::text(b"too few numbers\n");
-        return;
-    }
-    let places = &numbers[1..end];
-    let parents = &numbers[end..];
-    print::entries(parents);
-    print::lent(label.len(), tour.len(), lift.len(), order.len(), work.len());
-    print::damaged(places);
-    build_and_compare(parents, places, parents, label, tour, lift, order, work);
+) -> io::Result<()> {
+    let [count, rest @ ..] = numbers else {
+        return println!(out; "too few numbers");
+    };
+    let Some((changed, parents)) = rest.split_at_checked(usize::from(*count)) else {
+        return println!(out; "too few numbers");
+    };
+    lent(out, buffers.tables(parents), work)?;
+    print!(out; ", damaged at {}", places(changed))?;
+    build_and_compare(out, parents, changed, parents, buffers, work)
 }
 
 // Compares the tables of a sheet with it, the order table replaced by the numbers before the entries, one for each of its cells.
-fn given(
-    numbers: &[u16],
-    label: &mut [u16],
-    tour: &mut [u16],
-    lift: &mut [u16],
-    order: &mut [u16],
-    work: &mut [u16],
-) {
-    let end = order.len();
-    if numbers.len() < end {
-        print::text(b"too few numbers\n");
-        return;
+fn given(out: Stdout, numbers: &[u16], buffers: &mut Buffers, work: &mut [u16]) -> io::Result<()> {
+    let Some((cells, parents)) = numbers.split_at_checked(buffers.order.len()) else {
+        return println!(out; "too few numbers");
+    };
+    lent(out, buffers.tables(parents), work)?;
+    print!(out; ", order {}", some(cells))?;
+    tables::build(
+        parents,
+        buffers.label,
+        buffers.tour,
+        buffers.lift,
+        buffers.order,
+        work,
+    );
+    for (cell, number) in buffers.order.iter_mut().zip(cells) {
+        *cell = *number;
     }
-    let cells = &numbers[0..end];
-    let parents = &numbers[end..];
-    print::entries(parents);
-    print::lent(label.len(), tour.len(), lift.len(), order.len(), work.len());
-    print::text(b", order ");
-    print::some(cells);
-    tables::build(parents, label, tour, lift, order, work);
-    shape::copy(cells, order);
-    compare(parents, label, tour, lift, order, work);
+    compare(out, buffers.tables(parents), work)
 }
 
 // Compares the tables of the sheet in the first half of a line with the sheet in the second.
-fn other(
-    numbers: &[u16],
-    label: &mut [u16],
-    tour: &mut [u16],
-    lift: &mut [u16],
-    order: &mut [u16],
-    work: &mut [u16],
-) {
-    let half = numbers.len() / 2;
-    let first = &numbers[..half];
-    let second = &numbers[half..];
-    print::entries(first);
-    print::text(b" / ");
-    print::entries(second);
-    print::lent(label.len(), tour.len(), lift.len(), order.len(), work.len());
-    build_and_compare(first, &[], second, label, tour, lift, order, work);
+fn other(out: Stdout, numbers: &[u16], buffers: &mut Buffers, work: &mut [u16]) -> io::Result<()> {
+    let (first, second) = numbers.split_at(numbers.len() / 2);
+    print!(out; "{} / ", entries(first))?;
+    lent(out, buffers.tables(second), work)?;
+    build_and_compare(out, first, &[], second, buffers, work)
 }
 
 // Builds the tables of one sheet, changes the cells at some places, and compares them with another sheet.
 fn build_and_compare(
+    out: Stdout,
     first: &[u16],
-    places: &[u16],
+    changed: &[u16],
     second: &[u16],
-    label: &mut [u16],
-    tour: &mut [u16],
-    lift: &mut [u16],
-    order: &mut [u16],
+    buffers: &mut Buffers,
     work: &mut [u16],
-) {
-    tables::build(first, label, tour, lift, order, work);
-    damage::all(places, label, tour, lift, order);
-    compare(second, label, tour, lift, order, work);
+) -> io::Result<()> {
+    tables::build(
+        first,
+        buffers.label,
+        buffers.tour,
+        buffers.lift,
+        buffers.order,
+        work,
+    );
+    damage::all(changed, buffers);
+    compare(out, buffers.tables(second), work)
 }
 
 // Compares tables that hold sevens only.
-fn sevens(
-    parents: &[u16],
-    label: &[u16],
-    tour: &[u16],
-    lift: &[u16],
-    order: &[u16],
-    work: &mut [u16],
-) {
-    print::entries(parents);
-    print::lent(label.len(), tour.len(), lift.len(), order.len(), work.len());
-    print::text(b", sevens");
-    compare(parents, label, tour, lift, order, work);
+fn sevens(out: Stdout, tables: Tables, work: &mut [u16]) -> io::Result<()> {
+    lent(out, tables, work)?;
+    print!(out; ", sevens")?;
+    compare(out, tables, work)
 }
 
 // Compares tables with a sheet, and prints the rest of the line.
-pub fn compare(
-    parents: &[u16],
-    label: &[u16],
-    tour: &[u16],
-    lift: &[u16],
-    order: &[u16],
-    work: &mut [u16],
-) {
-    shape::fill(work, 7);
+pub fn compare(out: Stdout, tables: Tables, work: &mut [u16]) -> io::Result<()> {
+    let Tables {
+        parents,
+        label,
+        tour,
+        lift,
+        order,
+    } = tables;
+    work.fill(BEFORE);
     let r = tables::compare(parents, label, tour, lift, order, work);
-    print::verdict(r);
-    print::after(work);
-    print::text(b"\n");
+    println!(out; "{}{}", Verdict(r), Work(work))
 }

@@ -15,26 +15,43 @@ mod subtree;
 mod totals;
 mod trail;
 
+use arrayvec::ArrayVec;
+use print::{Verdict, Work};
+use std::io;
+use std::io::{Print, Stdin, Stdout};
+use std::process::ExitCode;
+
+// What each cell that a call may write holds before it.
+const BEFORE: u16 = 7;
+
+// The most bytes of standard input that are read.
+const INPUT: usize = 65536;
+
 // Checks one sheet and prints the rest of its line.
-fn run(parents: &[u16], work: &mut [u16]) {
-    shape::fill(work, 7);
+fn check(out: Stdout, parents: &[u16], work: &mut [u16]) -> io::Result<()> {
+    work.fill(BEFORE);
     let r = tables::check(parents, work);
-    print::verdict(r);
-    print::after(work);
-    print::text(b"\n");
+    println!(out; "{}{}", Verdict(r), Work(work))
 }
 
 // Runs the lines of standard input, and then the large sheets.
-fn main() {
-    let mut text = io::large_buffer();
-    let n = io::read_full(0, &mut text);
-    cases::run_all(&text[..n]);
-    large::accepted();
-    large::sizes();
-    large::refused();
-    large::cycles();
-    large::size_of_tables();
-    large::tables();
-    large::counted();
-    large::not_counted();
+fn run(mut stdin: Stdin, out: Stdout) -> io::Result<()> {
+    let mut text: ArrayVec<u8, INPUT> = ArrayVec::new();
+    let _ = io::copy(&mut stdin, &mut text);
+    cases::all(out, text.as_slice())?;
+    large::accepted(out)?;
+    large::sizes(out)?;
+    large::refused(out)?;
+    large::cycles(out)?;
+    large::size_of_tables(out)?;
+    large::tables(out)?;
+    large::counted(out)?;
+    large::not_counted(out)
+}
+
+fn main(rt: HostRuntime) -> ExitCode {
+    match run(rt.stdin(), rt.stdout()) {
+        Ok(()) => ExitCode::SUCCESS,
+        Err(_) => ExitCode::FAILURE,
+    }
 }

@@ -3,188 +3,124 @@
 // low half and 65536 times its high half, which is 0 where the line gives none. Before the call work holds sevens, and totals a number that no
 // total is.
 
-ghost use Rattle.std.specs.Prelude.{◌≡◌, ◌<◌, length};
-
-use crate::{large, lend, print, shape};
+use crate::BEFORE;
+use crate::large::{PARTS, WORK};
+use crate::print::{Numbers, Verdict, Work, entries, kept};
+use std::fmt::{Display, Formatter, Write};
+use std::io::{Print, Stdout};
+use std::{fmt, io};
 use tree::Outcome;
 
 // What each cell of totals holds before a call.
-const BEFORE: u64 = 7777777777777777777;
+const NO_TOTAL: u64 = 7777777777777777777;
+
+// A number below which totals are mixed.
+const MIXED: u64 = 4294967291;
 
 // Parts the numbers of a line.
-pub fn run(numbers: &[u16]) {
-    if numbers.len() < 4 {
-        print::text(b"too few numbers\n");
-        return;
-    }
-    let w = lend::wide(numbers[0]);
-    let mid = 4 + lend::wide(numbers[1]);
-    let t = lend::wide(numbers[2]);
-    let end = mid + lend::wide(numbers[3]);
-    if numbers.len() < end {
-        print::text(b"too few numbers\n");
-        return;
-    }
-    let low = &numbers[4..mid];
-    let high = &numbers[mid..end];
-    let parents = &numbers[end..];
-    lend_cells(w, t, low, high, parents);
-}
-
-// Lends as many cells of each buffer as the line says.
-fn lend_cells(w: usize, t: usize, low: &[u16], high: &[u16], parents: &[u16]) {
-    let mut work = [7u16; 128];
-    let mut counts = [0u32; 32];
-    let mut totals = [BEFORE; 32];
-    let c = low.len();
-    if 128 < w || 32 < c || 32 < t {
-        print::text(b"too many cells\n");
-        return;
-    }
-    ask(
+pub fn run(out: Stdout, numbers: &[u16]) -> io::Result<()> {
+    let [work, counts, totals, halves, rest @ ..] = numbers else {
+        return println!(out; "too few numbers");
+    };
+    let Some((low, rest)) = rest.split_at_checked(usize::from(*counts)) else {
+        return println!(out; "too few numbers");
+    };
+    let Some((high, parents)) = rest.split_at_checked(usize::from(*halves)) else {
+        return println!(out; "too few numbers");
+    };
+    lend(
+        out,
+        usize::from(*work),
+        usize::from(*totals),
         low,
         high,
         parents,
-        &mut work[0..w],
-        &mut counts[0..c],
-        &mut totals[0..t],
-    );
+    )
 }
 
-// Puts the counts, asks for the totals, and prints a line.
-fn ask(
+// Lends as many cells of each buffer as the line says, puts the counts, asks for the totals, and prints a line.
+fn lend(
+    out: Stdout,
+    w: usize,
+    t: usize,
     low: &[u16],
     high: &[u16],
     parents: &[u16],
-    work: &mut [u16],
-    counts: &mut [u32],
-    totals: &mut [u64],
-) {
-    print::entries(parents);
-    print::text(b" with ");
-    print::number(work.len() as u64);
-    print::text(b" ");
-    print::number(counts.len() as u64);
-    print::text(b" ");
-    print::number(totals.len() as u64);
-    print::text(b", counts ");
+) -> io::Result<()> {
+    let mut work = [BEFORE; 128];
+    let mut counts = [0; 32];
+    let mut totals = [NO_TOTAL; 32];
+    let c = low.len();
+    if work.len() < w || counts.len() < c || totals.len() < t {
+        return println!(out; "too many cells");
+    }
+    let counts = &mut counts[..c];
     put(low, high, counts);
-    answer(parents, work, counts, totals);
+    print!(out;
+        "{} with {w} {c} {t}, counts {}",
+        entries(parents),
+        Numbers(counts, "nothing")
+    )?;
+    answer(out, parents, &mut work[..w], counts, &mut totals[..t])
 }
 
-// Puts each count and prints it.
+// Puts each count.
 fn put(low: &[u16], high: &[u16], counts: &mut [u32]) {
-    if counts.len() == 0 {
-        print::text(b"nothing");
-    }
-    let mut i = 0;
-    while i < counts.len() {
-        let x = half(low, i) + 65536 * half(high, i);
-        counts[i] = x as u32;
-        print::wide_cell(i, x as u64);
-        i += 1;
+    for (i, count) in counts.iter_mut().enumerate() {
+        *count = half(high, i) << 16 | half(low, i);
     }
 }
 
 // Half of a count, 0 where none is given.
-fn half(halves: &[u16], i: usize) -> usize
-    ensures { result < 65536 }
-{
-    if halves.len() <= i {
-        return 0;
-    }
-    lend::wide(halves[i])
+fn half(halves: &[u16], i: usize) -> u32 {
+    halves.get(i).map_or(0, |half| u32::from(*half))
 }
 
 // Asks for the totals of as many parts as a sheet may have, with the largest counts.
-pub fn ask_large(parents: &[u16]) {
-    let mut work = large::work();
-    let counts = largest();
-    let mut totals = before();
-    print::text(b", every count 4294967295");
-    answer(parents, &mut work, &counts, &mut totals);
-}
-
-// The counts of 16,384 parts, each the largest.
-fn largest() -> [u32; 16384]
-    ensures { 16384 ≡ length result }
-{
-    [4294967295; 16384]
-}
-
-// The totals of 16,384 parts, before the call.
-fn before() -> [u64; 16384]
-    ensures { 16384 ≡ length result }
-{
-    [BEFORE; 16384]
+pub fn ask_large(out: Stdout, parents: &[u16]) -> io::Result<()> {
+    let mut work = [BEFORE; WORK];
+    let counts = [u32::MAX; PARTS];
+    let mut totals = [NO_TOTAL; PARTS];
+    print!(out; ", every count {}", u32::MAX)?;
+    answer(out, parents, &mut work, &counts, &mut totals)
 }
 
 // Asks for the totals, and prints the rest of a line.
-fn answer(parents: &[u16], work: &mut [u16], counts: &[u32], totals: &mut [u64]) {
-    shape::fill(work, 7);
+fn answer(
+    out: Stdout,
+    parents: &[u16],
+    work: &mut [u16],
+    counts: &[u32],
+    totals: &mut [u64],
+) -> io::Result<()> {
+    work.fill(BEFORE);
     let r = wear::totals(parents, work, counts, totals);
-    print::verdict(r);
-    print::after(work);
-    print::text(b", totals ");
+    print!(out; "{}{}, totals ", Verdict(r), Work(work))?;
     match r {
-        Outcome::Accepted => filled(totals),
-        Outcome::Refused(_) => kept(totals),
+        Outcome::Accepted => println!(out; "{}", Totals(totals)),
+        Outcome::Refused(_) => println!(out; "{}", kept(totals, NO_TOTAL)),
     }
-    print::text(b"\n");
 }
 
 // The totals: all of up to 32, or the first, the last and a number that is mixed from all.
-fn filled(totals: &[u64]) {
-    let count = totals.len();
-    if count <= 32 {
-        list(totals);
-        return;
-    }
-    print::text(b"from ");
-    print::number(totals[0]);
-    print::text(b" to ");
-    print::number(totals[count - 1]);
-    print::text(b", mixed ");
-    print::number(mixed(totals));
-}
+#[derive(Drop)]
+struct Totals<'a>(&'a [u64]);
 
-// The totals, parted by spaces.
-fn list(totals: &[u64]) {
-    let mut v = 0;
-    while v < totals.len() {
-        print::wide_cell(v, totals[v]);
-        v += 1;
+impl Display for Totals<'_> {
+    fn fmt<W: Write>(&self, f: &mut Formatter<W>) -> fmt::Result {
+        match self.0 {
+            [first, .., last] if 32 < self.0.len() => {
+                write!(f, "from {first} to {last}, mixed {}", mixed(self.0))
+            }
+            _ => write!(f, "{}", Numbers(self.0, "")),
+        }
     }
 }
 
 // A number that each total and its place has a part in.
 fn mixed(totals: &[u64]) -> u64 {
-    let mut mix = 0;
-    let mut v = 0;
-    while v < totals.len() {
-        mix = (31 * mix + totals[v] % 4294967291) % 4294967291;
-        v += 1;
-    }
-    mix
-}
-
-// Whether the totals are as they were.
-fn kept(totals: &[u64]) {
-    if untouched(totals) {
-        print::text(b"kept");
-    } else {
-        print::text(b"changed");
-    }
-}
-
-// Each cell holds what it held before the call.
-fn untouched(totals: &[u64]) -> bool {
-    let mut v = 0;
-    while v < totals.len() {
-        if totals[v] != BEFORE {
-            return false;
-        }
-        v += 1;
-    }
-    true
+    totals.iter().fold(
+        0,
+        |mix: u64, total| (31 * (mix % MIXED) + total % MIXED) % MIXED,
+    )
 }

@@ -1,71 +1,78 @@
 // Asking for the trail of a pair.
 
-use crate::{print, shape};
+use crate::BEFORE;
+use crate::ask::Question;
+use crate::lend::Tables;
+use crate::print::{Answered, Rows, kept};
+use std::io;
+use std::io::{Print, Stdout};
 use tree::{Outcome, Traced};
 
-// Asks for a trail, with an answer and a trail of so many cells.
-pub fn ask(
-    cells: usize,
-    rows: usize,
-    question: &[u16],
-    parents: &[u16],
-    label: &[u16],
-    tour: &[u16],
-    lift: &[u16],
-    order: &[u16],
-    work: &mut [u16],
-) {
-    let mut answer = [7u16; 3];
-    let mut trail = [7u16; 65];
-    if 3 < cells || 65 < rows {
-        print::text(b"too many cells\n");
-        return;
+// Asks for a trail, with an answer and a trail of the lengths that the question says, and prints a line.
+pub fn ask(out: Stdout, asked: Question, tables: Tables, work: &mut [u16]) -> io::Result<()> {
+    let mut answer = [BEFORE; 3];
+    let mut trail = [BEFORE; 65];
+    if answer.len() < asked.cells || trail.len() < asked.rows {
+        return println!(out; "too many cells");
     }
     answer_in(
-        question,
+        out,
+        asked.parts,
+        tables,
+        work,
+        &mut answer[..asked.cells],
+        &mut trail[..asked.rows],
+    )
+}
+
+// Asks for a trail and prints a line.
+fn answer_in(
+    out: Stdout,
+    pair: &[u16],
+    tables: Tables,
+    work: &mut [u16],
+    answer: &mut [u16],
+    trail: &mut [u16],
+) -> io::Result<()> {
+    let Tables {
         parents,
         label,
         tour,
         lift,
         order,
-        work,
-        &mut answer[0..cells],
-        &mut trail[0..rows],
-    );
-}
-
-// Asks for a trail and prints a line.
-fn answer_in(
-    question: &[u16],
-    parents: &[u16],
-    label: &[u16],
-    tour: &[u16],
-    lift: &[u16],
-    order: &[u16],
-    work: &mut [u16],
-    answer: &mut [u16],
-    trail: &mut [u16],
-) {
-    shape::fill(work, 7);
-    let r = routes::trail(
-        parents, label, tour, lift, order, work, question, answer, trail,
-    );
-    traced(r, work, answer, trail);
+    } = tables;
+    work.fill(BEFORE);
+    let r = routes::trail(parents, label, tour, lift, order, work, pair, answer, trail);
+    traced(out, r, work, answer, trail)
 }
 
 // What came of a trail.
-fn traced(r: Traced, work: &[u16], answer: &[u16], trail: &[u16]) {
-    print::text(b"  trail");
+fn traced(out: Stdout, r: Traced, work: &[u16], answer: &[u16], trail: &[u16]) -> io::Result<()> {
     match r {
-        Traced::Lifts(count) => {
-            print::answered(Outcome::Accepted, work, answer);
-            print::rows(count, trail);
+        Traced::Lifts(lifts) => {
+            let outcome = Outcome::Accepted;
+            let cells = trail;
+            println!(out;
+                "  trail{}{}",
+                Answered {
+                    outcome,
+                    work,
+                    answer
+                },
+                Rows { lifts, cells }
+            )
         }
         Traced::Refused(why) => {
-            print::answered(Outcome::Refused(why), work, answer);
-            print::text(b", trail ");
-            print::kept(trail);
+            let outcome = Outcome::Refused(why);
+            println!(out;
+                "  trail{}, trail {}",
+                Answered {
+                    outcome,
+                    work,
+                    answer
+                },
+                kept(trail, BEFORE)
+            )
         }
     }
-    print::text(b"\n");
 }

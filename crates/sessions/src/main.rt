@@ -4,18 +4,34 @@
 
 #![tactic(auto)]
 
-mod bytes;
 mod cases;
 mod large;
 mod show;
 mod size;
 
-// Runs the cases of standard input, and then the inputs that are made here.
-fn main() {
-    let mut text = io::large_buffer();
-    let n = io::read_full(0, &mut text);
-    cases::run_all(&text[..n]);
-    cases::read_whole(n, &text);
-    size::all();
-    large::all();
+use arrayvec::ArrayVec;
+use std::io;
+use std::io::{Stdin, Stdout};
+use std::process::ExitCode;
+
+// The most bytes of standard input that are read.
+const INPUT: usize = 65536;
+
+// Runs the cases of standard input, and then the inputs that are made here. What is read fills its buffer where more may follow.
+fn run(mut stdin: Stdin, out: Stdout) -> io::Result<()> {
+    let mut text: ArrayVec<u8, INPUT> = ArrayVec::new();
+    let _ = io::copy(&mut stdin, &mut text);
+    cases::all(out, text.as_slice())?;
+    if text.is_full() {
+        println!(out; "standard input is too long")?;
+    }
+    size::all(out)?;
+    large::all(out)
+}
+
+fn main(rt: HostRuntime) -> ExitCode {
+    match run(rt.stdin(), rt.stdout()) {
+        Ok(()) => ExitCode::SUCCESS,
+        Err(_) => ExitCode::FAILURE,
+    }
 }

@@ -1,58 +1,60 @@
 // A run, and what is printed of it. Before a run its buffer holds sevens.
 
-use crate::bytes;
 use console::Written;
+use std::io;
+use std::io::{Print, Stdout, Write};
 
-// Runs the program on the first n bytes of a buffer, and writes into one of 4,096 bytes.
-pub fn first(name: &[u8], buffer: &[u8], n: usize) {
-    let mut out = io::buffer();
-    let count = bytes::upto(n, buffer);
-    title(name);
-    run(&buffer[..count], &mut out);
+// What each byte of a buffer holds before a run.
+pub const BEFORE: u8 = 7;
+
+// The bytes of the buffer that short inputs are run in.
+pub const SHORT: usize = 4096;
+
+// Runs the program on an input in a buffer of 4,096 bytes.
+pub fn first(out: Stdout, name: &[u8], input: &[u8]) -> io::Result<()> {
+    let mut buffer = [BEFORE; SHORT];
+    title(out, name)?;
+    run(out, input, &mut buffer)
 }
 
-// The known machine, document 01's, at the start of a buffer.
-pub fn known(text: &mut [u8]) -> usize {
-    bytes::put(
-        text,
-        0,
+// Puts the known machine, document 01's.
+pub fn put_known(text: &mut impl Write) -> io::Result<()> {
+    text.write_all(
         b"(machine 7)\n(part 0 (in 0))\n(part 1 (in 0))\n(part 2 (in 0))\n(part 3 (in 1))\n(part 4 (in 1))\n(part 5 (in 2))\n(part 6 (in 5))\n",
     )
 }
 
 // The name of a run.
-pub fn title(name: &[u8]) {
-    io::write_all(1, name);
-    io::write_all(1, b":\n");
+pub fn title(out: Stdout, name: &[u8]) -> io::Result<()> {
+    out.write_all(name)?;
+    println!(out; ":")
 }
 
 // Runs the program in a buffer, and prints what it wrote.
-pub fn run(input: &[u8], out: &mut [u8]) {
-    bytes::fill(out, 7);
-    match console::run(input, out) {
-        Written::Text(n) => text(out, n),
-        Written::Short(n) => short(out, n),
+pub fn run(out: Stdout, input: &[u8], buffer: &mut [u8]) -> io::Result<()> {
+    match console::run(input, buffer) {
+        Written::Text(n) => text(out, buffer, n),
+        Written::Short(n) => short(out, buffer, n),
     }
 }
 
 // The text, whole.
-fn text(out: &[u8], n: usize) {
-    let count = bytes::upto(n, out);
-    io::write_all(1, &out[..count]);
-    kept(&out[count..]);
+fn text(out: Stdout, buffer: &[u8], n: usize) -> io::Result<()> {
+    let (text, rest) = buffer.split_at(n.min(buffer.len()));
+    out.write_all(text)?;
+    kept(out, rest)
 }
 
 // What a buffer lacks.
-pub fn short(out: &[u8], n: usize) {
-    io::write_all(1, b"the buffer is short: it needs ");
-    io::print_decimal(1, n as u64);
-    io::write_all(1, b" bytes\n");
-    kept(out);
+pub fn short(out: Stdout, buffer: &[u8], n: usize) -> io::Result<()> {
+    println!(out; "the buffer is short: it needs {n} bytes")?;
+    kept(out, buffer)
 }
 
 // Says so if a byte that must be as it was is not.
-pub fn kept(rest: &[u8]) {
-    if !bytes::all(rest, 7) {
-        io::write_all(1, b"a byte after the text was changed\n");
+pub fn kept(out: Stdout, rest: &[u8]) -> io::Result<()> {
+    if rest.iter().any(|byte| *byte != BEFORE) {
+        println!(out; "a byte after the text was changed")?;
     }
+    Ok(())
 }
