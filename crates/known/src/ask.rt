@@ -4,12 +4,12 @@
 // 'p' asks for pairs by each route, 'r' for the rows of a pair's trail, 'm' for the carrier of many parts, 's' for the subtree of each part. Before a
 // call all it may write holds sevens.
 
-use crate::lend::{Buffers, Tables};
+use crate::lend::Buffers;
 use crate::print::{Answered, places, some};
 use crate::{BEFORE, damage, lend, subtree, trail};
 use std::io;
 use std::io::{Print, Stdout};
-use tree::Outcome;
+use tree::{Lent, Refusal};
 
 // What a line asks for.
 #[derive(Clone, Copy)]
@@ -67,7 +67,7 @@ pub fn run(
     };
     let cells = usize::from(*cells);
     let rows = usize::from(*rows);
-    tables::build(
+    let _ = tables::build(
         parents,
         buffers.label,
         buffers.tour,
@@ -97,7 +97,7 @@ fn ask_kind(
     out: Stdout,
     kind: Kind,
     asked: Question,
-    tables: Tables,
+    tables: Lent,
     work: &mut [u16],
 ) -> io::Result<()> {
     match kind {
@@ -109,7 +109,7 @@ fn ask_kind(
 }
 
 // Asks for pairs by each of the three routes.
-pub fn pairs(out: Stdout, asked: Question, tables: Tables, work: &mut [u16]) -> io::Result<()> {
+pub fn pairs(out: Stdout, asked: Question, tables: Lent, work: &mut [u16]) -> io::Result<()> {
     for route in [Call::Labels, Call::Tour, Call::Lifts] {
         ask(out, route, asked, tables, work)?;
     }
@@ -121,7 +121,7 @@ pub fn ask(
     out: Stdout,
     call: Call,
     asked: Question,
-    tables: Tables,
+    tables: Lent,
     work: &mut [u16],
 ) -> io::Result<()> {
     let mut answer = [BEFORE; 768];
@@ -146,25 +146,14 @@ pub fn ask(
 fn answer_in(
     call: Call,
     parts: &[u16],
-    tables: Tables,
+    tables: Lent,
     work: &mut [u16],
     answer: &mut [u16],
-) -> Outcome {
-    let Tables {
-        parents,
-        label,
-        tour,
-        lift,
-        order,
-    } = tables;
+) -> Result<(), Refusal> {
     match call {
-        Call::Labels => routes::pairs_by_labels(
-            parents, label, tour, lift, order, work, parts, answer,
-        ),
-        Call::Tour => routes::pairs_by_tour(parents, label, tour, lift, order, work, parts, answer),
-        Call::Lifts => routes::pairs_by_lifts(
-            parents, label, tour, lift, order, work, parts, answer,
-        ),
-        Call::List => routes::list(parents, label, tour, lift, order, work, parts, answer),
+        Call::Labels => routes::pairs_by_labels(tables, work, parts, answer),
+        Call::Tour => routes::pairs_by_tour(tables, work, parts, answer),
+        Call::Lifts => routes::pairs_by_lifts(tables, work, parts, answer),
+        Call::List => routes::list(tables, work, parts, answer),
     }
 }

@@ -3,10 +3,11 @@
 ghost use Rattle.std.specs.Prelude.{◌≡◌, length};
 
 use crate::ask::{Call, Question};
-use crate::lend::{Buffers, Tables};
+use crate::lend::Buffers;
 use crate::{BEFORE, ask, check, damage, lend, shape, subtree, totals, trail};
 use std::io;
 use std::io::{Print, Stdout};
+use tree::Lent;
 
 // The most parts of a sheet, and the cells of the buffers of so many.
 pub const PARTS: usize = 16384;
@@ -57,7 +58,7 @@ pub fn size_of_tables(out: Stdout) -> io::Result<()> {
         order: &mut [BEFORE; 1],
     };
     print!(out; "16385 entries, tables")?;
-    lend::built(out, &s, &mut buffers, &mut w)?;
+    let _ = lend::built(out, &s, &mut buffers, &mut w)?;
     print!(out; "16385 entries, compared")?;
     lend::compare(out, buffers.tables(&s), &mut w)?;
     answers(out, buffers.tables(&s), &mut w)
@@ -141,7 +142,7 @@ fn run_tables(
     work: &mut [u16],
 ) -> io::Result<()> {
     print!(out; ", tables")?;
-    lend::built(out, parents, buffers, work)?;
+    let _ = lend::built(out, parents, buffers, work)?;
     compare(out, "compared", buffers.tables(parents), work)?;
     answers(out, buffers.tables(parents), work)?;
     damage::last(buffers.order);
@@ -158,7 +159,7 @@ fn run_tables(
 }
 
 // Asks for nine pairs by each route, with three cells of answer for each, for two trails, for a list, and for subtrees.
-fn answers(out: Stdout, tables: Tables, work: &mut [u16]) -> io::Result<()> {
+fn answers(out: Stdout, tables: Lent, work: &mut [u16]) -> io::Result<()> {
     let pairs = [
         0, 16383, 16383, 16383, 16382, 16383, 12345, 6789, 4095, 4096, 8191, 8192, 7586, 11500,
         15297, 9876, 12290, 11371,
@@ -177,7 +178,7 @@ fn question(cells: usize, rows: usize, parts: &[u16]) -> Question<'_> {
 }
 
 // Compares tables with a sheet, and prints a line.
-fn compare(out: Stdout, name: &str, tables: Tables, work: &mut [u16]) -> io::Result<()> {
+fn compare(out: Stdout, name: &str, tables: Lent, work: &mut [u16]) -> io::Result<()> {
     print!(out; "  {name}")?;
     lend::compare(out, tables, work)
 }

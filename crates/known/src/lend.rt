@@ -7,7 +7,7 @@ use crate::print::{Numbers, Verdict, Work, entries, holds, places, some};
 use crate::{BEFORE, ask, damage};
 use std::io;
 use std::io::{Print, Stdout};
-use tree::Outcome;
+use tree::{Lent, Refusal};
 
 // What is done with the buffers that a line lends.
 #[derive(Clone, Copy)]
@@ -49,8 +49,8 @@ pub struct Buffers<'a> {
 
 impl Buffers<'_> {
     // A sheet with what the buffers hold.
-    pub fn tables<'b>(&'b self, parents: &'b [u16]) -> Tables<'b> {
-        Tables {
+    pub fn tables<'b>(&'b self, parents: &'b [u16]) -> Lent<'b> {
+        Lent {
             parents,
             label: self.label,
             tour: self.tour,
@@ -66,16 +66,6 @@ impl Buffers<'_> {
             && holds(self.lift, BEFORE)
             && holds(self.order, BEFORE)
     }
-}
-
-// A sheet, and the four tables that are lent with it.
-#[derive(Clone, Copy)]
-pub struct Tables<'a> {
-    pub parents: &'a [u16],
-    pub label: &'a [u16],
-    pub tour: &'a [u16],
-    pub lift: &'a [u16],
-    pub order: &'a [u16],
 }
 
 // Lends as many cells of each buffer as a line says, and runs it.
@@ -124,8 +114,8 @@ fn run_kind(
 }
 
 // Prints a sheet, and how many cells of the tables and of work are lent with it.
-pub fn lent(out: Stdout, tables: Tables, work: &[u16]) -> io::Result<()> {
-    let Tables {
+pub fn lent(out: Stdout, tables: Lent, work: &[u16]) -> io::Result<()> {
+    let Lent {
         parents,
         label,
         tour,
@@ -145,10 +135,9 @@ pub fn lent(out: Stdout, tables: Tables, work: &[u16]) -> io::Result<()> {
 // Builds the tables of a sheet, and prints those of an accepted one.
 fn build(out: Stdout, parents: &[u16], buffers: &mut Buffers, work: &mut [u16]) -> io::Result<()> {
     lent(out, buffers.tables(parents), work)?;
-    let r = built(out, parents, buffers, work)?;
-    let Outcome::Accepted = r else {
+    if built(out, parents, buffers, work)?.is_err() {
         return Ok(());
-    };
+    }
     println!(out; "  label: {}", Numbers(buffers.label, ""))?;
     println!(out; "  tour: {}", Numbers(buffers.tour, ""))?;
     println!(out; "  lift: {}", Numbers(buffers.lift, ""))?;
@@ -161,7 +150,7 @@ pub fn built(
     parents: &[u16],
     buffers: &mut Buffers,
     work: &mut [u16],
-) -> io::Result<Outcome> {
+) -> io::Result<Result<(), Refusal>> {
     work.fill(BEFORE);
     let r = tables::build(
         parents,
@@ -201,7 +190,7 @@ fn given(out: Stdout, numbers: &[u16], buffers: &mut Buffers, work: &mut [u16]) 
     };
     lent(out, buffers.tables(parents), work)?;
     print!(out; ", order {}", some(cells))?;
-    tables::build(
+    let _ = tables::build(
         parents,
         buffers.label,
         buffers.tour,
@@ -232,7 +221,7 @@ fn build_and_compare(
     buffers: &mut Buffers,
     work: &mut [u16],
 ) -> io::Result<()> {
-    tables::build(
+    let _ = tables::build(
         first,
         buffers.label,
         buffers.tour,
@@ -245,22 +234,15 @@ fn build_and_compare(
 }
 
 // Compares tables that hold sevens only.
-fn sevens(out: Stdout, tables: Tables, work: &mut [u16]) -> io::Result<()> {
+fn sevens(out: Stdout, tables: Lent, work: &mut [u16]) -> io::Result<()> {
     lent(out, tables, work)?;
     print!(out; ", sevens")?;
     compare(out, tables, work)
 }
 
 // Compares tables with a sheet, and prints the rest of the line.
-pub fn compare(out: Stdout, tables: Tables, work: &mut [u16]) -> io::Result<()> {
-    let Tables {
-        parents,
-        label,
-        tour,
-        lift,
-        order,
-    } = tables;
+pub fn compare(out: Stdout, tables: Lent, work: &mut [u16]) -> io::Result<()> {
     work.fill(BEFORE);
-    let r = tables::compare(parents, label, tour, lift, order, work);
+    let r = tables::compare(tables, work);
     println!(out; "{}{}", Verdict(r), Work(work))
 }

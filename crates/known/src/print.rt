@@ -3,7 +3,7 @@
 use crate::BEFORE;
 use std::fmt;
 use std::fmt::{Display, Formatter, Write};
-use tree::{Outcome, Refusal};
+use tree::{Numbered, Refusal};
 
 // The numbers of a list, parted by spaces, or what is said where there are none.
 #[derive(Drop)]
@@ -39,14 +39,14 @@ pub fn places(places: &[u16]) -> Numbers<'_, u16> {
 
 // ": accepted", or ": refused N at P".
 #[derive(Drop)]
-pub struct Verdict(pub Outcome);
+pub struct Verdict(pub Result<(), Refusal>);
 
 impl Display for Verdict {
     fn fmt<W: Write>(&self, f: &mut Formatter<W>) -> fmt::Result {
         match self.0 {
-            Outcome::Accepted => f.write_str(": accepted"),
-            Outcome::Refused(why) => {
-                let shown = why.number_and_place();
+            Ok(()) => f.write_str(": accepted"),
+            Err(why) => {
+                let shown = Numbered::from(why);
                 write!(f, ": refused {} at {}", shown.number, shown.place)
             }
         }
@@ -72,7 +72,7 @@ impl Display for Work<'_> {
 // A verdict, what became of work, and the answer.
 #[derive(Drop)]
 pub struct Answered<'a> {
-    pub outcome: Outcome,
+    pub outcome: Result<(), Refusal>,
     pub work: &'a [u16],
     pub answer: &'a [u16],
 }
@@ -81,8 +81,8 @@ impl Display for Answered<'_> {
     fn fmt<W: Write>(&self, f: &mut Formatter<W>) -> fmt::Result {
         write!(f, "{}{}, answer ", Verdict(self.outcome), Work(self.work))?;
         match self.outcome {
-            Outcome::Accepted => write!(f, "{}", Numbers(self.answer, "")),
-            Outcome::Refused(_) => f.write_str(kept(self.answer, BEFORE)),
+            Ok(()) => write!(f, "{}", Numbers(self.answer, "")),
+            Err(_) => f.write_str(kept(self.answer, BEFORE)),
         }
     }
 }

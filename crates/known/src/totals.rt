@@ -9,7 +9,6 @@ use crate::print::{Numbers, Verdict, Work, entries, kept};
 use std::fmt::{Display, Formatter, Write};
 use std::io::{Print, Stdout};
 use std::{fmt, io};
-use tree::Outcome;
 
 // What each cell of totals holds before a call.
 const NO_TOTAL: u64 = 7777777777777777777;
@@ -97,8 +96,8 @@ fn answer(
     let r = wear::totals(parents, work, counts, totals);
     print!(out; "{}{}, totals ", Verdict(r), Work(work))?;
     match r {
-        Outcome::Accepted => println!(out; "{}", Totals(totals)),
-        Outcome::Refused(_) => println!(out; "{}", kept(totals, NO_TOTAL)),
+        Ok(()) => println!(out; "{}", Totals(totals)),
+        Err(_) => println!(out; "{}", kept(totals, NO_TOTAL)),
     }
 }
 

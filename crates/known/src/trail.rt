@@ -2,14 +2,13 @@
 
 use crate::BEFORE;
 use crate::ask::Question;
-use crate::lend::Tables;
 use crate::print::{Answered, Rows, kept};
 use std::io;
 use std::io::{Print, Stdout};
-use tree::{Outcome, Traced};
+use tree::{Lent, Refusal};
 
 // Asks for a trail, with an answer and a trail of the lengths that the question says, and prints a line.
-pub fn ask(out: Stdout, asked: Question, tables: Tables, work: &mut [u16]) -> io::Result<()> {
+pub fn ask(out: Stdout, asked: Question, tables: Lent, work: &mut [u16]) -> io::Result<()> {
     let mut answer = [BEFORE; 3];
     let mut trail = [BEFORE; 65];
     if answer.len() < asked.cells || trail.len() < asked.rows {
@@ -29,50 +28,29 @@ pub fn ask(out: Stdout, asked: Question, tables: Tables, work: &mut [u16]) -> io
 fn answer_in(
     out: Stdout,
     pair: &[u16],
-    tables: Tables,
+    tables: Lent,
     work: &mut [u16],
     answer: &mut [u16],
     trail: &mut [u16],
 ) -> io::Result<()> {
-    let Tables {
-        parents,
-        label,
-        tour,
-        lift,
-        order,
-    } = tables;
     work.fill(BEFORE);
-    let r = routes::trail(parents, label, tour, lift, order, work, pair, answer, trail);
+    let r = routes::trail(tables, work, pair, answer, trail);
     traced(out, r, work, answer, trail)
 }
 
 // What came of a trail.
-fn traced(out: Stdout, r: Traced, work: &[u16], answer: &[u16], trail: &[u16]) -> io::Result<()> {
+fn traced(out: Stdout, r: Result<usize, Refusal>, work: &[u16], answer: &[u16], trail: &[u16]) -> io::Result<()> {
+    let outcome = r.map(|_| ());
+    let answered = Answered {
+        outcome,
+        work,
+        answer,
+    };
     match r {
-        Traced::Lifts(lifts) => {
-            let outcome = Outcome::Accepted;
+        Ok(lifts) => {
             let cells = trail;
-            println!(out;
-                "  trail{}{}",
-                Answered {
-                    outcome,
-                    work,
-                    answer
-                },
-                Rows { lifts, cells }
-            )
+            println!(out; "  trail{answered}{}", Rows { lifts, cells })
         }
-        Traced::Refused(why) => {
-            let outcome = Outcome::Refused(why);
-            println!(out;
-                "  trail{}, trail {}",
-                Answered {
-                    outcome,
-                    work,
-                    answer
-                },
-                kept(trail, BEFORE)
-            )
-        }
+        Err(_) => println!(out; "  trail{answered}, trail {}", kept(trail, BEFORE)),
     }
 }
