@@ -1,4 +1,4 @@
 -- The laws of this crate.
-pub mod Reading
+pub mod Powers
 pub mod Raising
 pub mod Meeting

@@ -5,6 +5,7 @@ use native.Mathlib.Nat.{pow-suc}
 use native.Mathlib.Omega.{arith}
 use mathlib.Core.Path.{◌≡◌, sym, ap, ◌∙◌}
 use mathlib.Core.Logic.{◌≢◌}
+use mathlib.Core.Bool.{true, false}
 use mathlib.Core.List.{List, [], ◌∷◌}
 use borrow.Author.Tests.{leb-true, leb-false}
 use lib.ListN.{length}
@@ -13,15 +14,14 @@ use Rattle.bits.proofs.Log.{log2-low, log2-high, log2-mono}
 use Rattle.tree.specs.Tree.{climb, level, Tree}
 use Rattle.tree.specs.Lca.{lca}
 use Rattle.tree.specs.Tables.{own}
-use Rattle.tree.specs.Nodes.{Small, Pair}
-use Rattle.tree.specs.Trail.{Row, lift_at, raise_both, by_lifts}
+use Rattle.tree.specs.Nodes.{Pair}
+use Rattle.tree.specs.Trail.{Row, lift_at, raise_both, stays_apart, by_lifts}
 use Rattle.tree.proofs.Climbs.{climb-zero, climb-split, climb-inside}
 use Rattle.tree.proofs.Trees.{level-below, level-climb, above}
 use Rattle.tree.proofs.Levelled.{lift-climbs, pair-carried, carried-only, one-carried, carried-climb}
 use Rattle.tree.proofs.Raised.{Raising, under, two-raising, raising, last-raise}
 use Rattle.tree.proofs.ByLifts.{lifts-found}
 use Rattle.lifting.specs.Stored.{row}
-use Rattle.lifting.proofs.Raising.{stays_apart_lem, meets}
 
 -- ---- steps up
 
@@ -111,19 +111,15 @@ nearing-start {s} {x} {y} {h} {k} p same other e f =
       powers = omega (arith, log2-mono h (length s) (omega (arith, level-below t y p.right)));
     }
 
--- .. and stay a pair of parts
-pub nearing-pair : {s : List ℕ} {c k : ℕ} {q : Row} → Small s → Nearing s c k q → Pair s q.x q.y
-nearing-pair small r = record { small = small; left = r.apart.carried.inside-x; right = r.apart.carried.inside-y }
-
-module _ {s : List ℕ} (t : Tree s) {c k : ℕ} {q up : Row} (r : Nearing s c k q) (some : 0 < k) (e : up ≡ raise_both (own s) (k - 1) q) where
+module _ {s : List ℕ} (t : Tree s) {c k : ℕ} {q : Row} (r : Nearing s c k q) (some : 0 < k) where
   tried : k - 1 < suc (log2 (length s))
   tried = omega (arith, r.powers)
 
   -- a power that leaves them different
-  pub nearing-pass : up.x ≢ up.y → Nearing s c (k - 1) up
-  nearing-pass other =
+  pub nearing-pass : {up : Row} → stays_apart (own s) (k - 1) q ≡ true → up ≡ raise_both (own s) (k - 1) q → Nearing s c (k - 1) up
+  nearing-pass passes e =
       let d = raising t c in
-      let far = leb-true _ _ (sym (d.tests (k - 1) q tried r.apart) ∙ stays_apart_lem e other) in
+      let far = leb-true _ _ (sym (d.tests (k - 1) q tried r.apart) ∙ passes) in
       let rest = d.falls (k - 1) q tried r.apart far in
       let next : suc (k - 1) ≡ k = omega arith in
       let few : under s c q < 2 ^ suc (k - 1) = rw next r.few in
@@ -134,10 +130,10 @@ module _ {s : List ℕ} (t : Tree s) {c k : ℕ} {q up : Row} (r : Nearing s c k
       }
 
   -- .. and one by which they meet
-  pub nearing-skip : up.x ≡ up.y → Nearing s c (k - 1) q
-  nearing-skip one = record {
+  pub nearing-skip : stays_apart (own s) (k - 1) q ≡ false → Nearing s c (k - 1) q
+  nearing-skip fails = record {
     apart = r.apart;
-    few = leb-false _ _ (sym ((raising t c).tests (k - 1) q tried r.apart) ∙ meets e one);
+    few = leb-false _ _ (sym ((raising t c).tests (k - 1) q tried r.apart) ∙ fails);
     powers = omega (arith, r.powers);
   }
 

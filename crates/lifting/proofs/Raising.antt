@@ -1,4 +1,4 @@
--- Raising by falling powers of two, as the loops do it: what is left to raise gives the same rows, stored at the same place, as all of it.
+-- Raising by falling powers of two, as the loop does it: what is left to raise gives the same rows, stored at the same place, as all of it.
 -- Rows stored one after the other, and a trail's buffer. Assumes nothing.
 use Prim.Native.Nat.{ℕ, suc, ◌+◌, ◌-◌, ◌*◌, ◌≤◌, ◌<◌}
 use native.Mathlib.Nat.{zero-add, add-zero, suc-add, add-suc}
@@ -31,11 +31,7 @@ different p = not (eqb p.x p.y)
 pub stays_apart_lem : {p up : Row} → up ≡ p → up.x ≢ up.y → different p ≡ true
 stays_apart_lem e other = ap different (sym e) ∙ ap not (ne_eqb _ _ other)
 
--- both are one
-pub meets : {p up : Row} → up ≡ p → up.x ≡ up.y → different p ≡ false
-meets e one = ap different (sym e) ∙ ap not (eq-eqb _ _ one)
-
--- ---- the loops
+-- ---- the loop
 
 -- from the pair p of a sheet s, with `at` rows before, all powers below 2^top are to be tried; those below 2^k are left, for the pair q,
 -- with `lifts` rows stored

@@ -7,10 +7,10 @@ use Rattle.lifting.proofs.by_lifts.Goals as goal
 pub returns-then-level : goal.returns-then-level
 returns-then-level c =
     let (pair, equal, carrier) = c.levelled-level.ensures in
-    lca-answers c.requires.0 (same-part pair c.if-level.true ∙ carrier) pair.left
+    lca-answers c.requires (same-part pair c.if-level.true ∙ carrier) pair.left
 
 pub returns : goal.returns
 returns c =
     let (pair, equal, carrier) = c.levelled-level.ensures in
     let r = c.meeting.ensures in
-    lca-answers c.requires.0 (r.is ∙ carrier) r.below
+    lca-answers c.requires (r.is ∙ carrier) r.below

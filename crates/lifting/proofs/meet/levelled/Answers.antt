@@ -8,12 +8,12 @@ use Rattle.lifting.proofs.meet.levelled.Goals as goal
 
 pub steps_up-requires : goal.steps_up-requires
 steps_up-requires c =
-    let r = c.deeper_first-pair.ensures in
+    let r = c.deeper_first-gap.ensures in
     let pair = r.pair in
-    (pair.small, c.requires.2, pair.left, omega (arith, r.deeper, level-below pair.small.tree _ pair.left))
+    (pair.small, pair.left, omega (arith, r.deeper, level-below pair.small.tree _ pair.left))
 
 pub returns : goal.returns
 returns c =
-    let r = c.deeper_first-pair.ensures in
+    let r = c.deeper_first-gap.ensures in
     let (level, equal, carrier) = levelled-pair r.pair _ r.deeper c.steps_up.ensures in
     (level, equal, carrier ∙ r.carrier)

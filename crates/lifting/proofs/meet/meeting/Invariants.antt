@@ -2,12 +2,9 @@
 -- Assumes nothing.
 use mathlib.Core.List.{[], ◌∷◌}
 use Rattle.tree.specs.Lca.{lca}
-use Rattle.lifting.specs.Stored.{row}
+use Rattle.lifting.specs.Stored.{row_of}
 use Rattle.lifting.proofs.Meeting.{Nearing}
 use Rattle.lifting.proofs.meet.meeting.Given as goal
 
 abbrev pub invariant-loop-k : goal.invariant-loop-k
-invariant-loop-k l = Nearing l.parents (lca l.parents (l.x0 ∷ l.y0 ∷ [])) l.k (row l.x l.y)
-
-abbrev pub decreases-loop-k : goal.decreases-loop-k
-decreases-loop-k l = l.k
+invariant-loop-k l = Nearing l.sheet (lca l.sheet (l.fn.start.x ∷ l.fn.start.y ∷ [])) l.k (row_of l.pair)

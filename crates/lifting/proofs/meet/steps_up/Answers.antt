@@ -2,41 +2,32 @@
 -- Assumes nothing.
 use Prim.Native.Nat.{ℕ, ◌*◌, ◌%◌, ◌^◌}
 use native.Mathlib.Omega.{arith}
-use mathlib.Core.Path.{◌≡◌, refl, ap, ◌∙◌}
+use mathlib.Core.Path.{◌≡◌, ap, ◌∙◌}
 use Rattle.bits.specs.Bits.{log2}
 use Rattle.bits.proofs.Log.{log2-low}
 use Rattle.bits.proofs.Ones.{one_shifted}
-use Rattle.lifting.proofs.Reading.{Lift, lift-of}
 use Rattle.lifting.proofs.Meeting.{climbing-power, climbing-step, climbing-end}
 use Rattle.lifting.proofs.meet.steps_up.Goals as goal
 use Rattle.lifting.proofs.meet.steps_up.Goals.{After-log2-k}
 
--- the cell of the greatest power of two
-cell : (c : After-log2-k) → Lift c.args.parents.now c.args.lift.now c.log2-k.result c.loop-left.v
-cell c =
-    let inv = c.loop-left.invariant in
-    lift-of _ _ c.requires.0.tree c.requires.1 (rw c.log2-k.ensures.is (climbing-power inv)) inv.node
-
--- the power itself
+-- the power
 power : (c : After-log2-k) → 1 * 2 ^ c.log2-k.result % 2 ^ 64 ≡ 2 ^ log2 c.loop-left.left
 power c =
     let k = c.log2-k.ensures in
     one_shifted 64 c.log2-k.result (omega (arith, k.below)) ∙ ap (λ (i : ℕ). 2 ^ i) k.is
 
-pub loop-left-init : goal.loop-left-init
-loop-left-init c = record { ends = refl; node = c.requires.2; few = c.requires.3 }
+pub lifted-v-requires : goal.lifted-v-requires
+lifted-v-requires c =
+    let inv = c.loop-left.invariant in
+    (c.requires.0, rw c.log2-k.ensures.is (climbing-power inv), inv.node)
 
 pub loop-left-preserved : goal.loop-left-preserved
 loop-left-preserved c =
-    let k = c.log2-k.ensures in
-    climbing-step c.requires.0.tree c.loop-left.invariant c.loop-left-test.true ((cell (goal.at.loop-left-preserved c).After-log2-k).cell ∙ rw k.is)
+    climbing-step c.requires.0.tree c.loop-left.invariant c.loop-left-test.true (c.lifted-v.ensures.is ∙ rw c.log2-k.ensures.is)
     (rw (power (goal.at.loop-left-preserved c).After-log2-k))
 
 pub returns : goal.returns
 returns c = climbing-end c.loop-left.invariant c.loop-left-test.false
-
-pub bounds-lift-k : goal.bounds-lift-k
-bounds-lift-k c = omega (arith, cell (goal.at.bounds-lift-k c).After-log2-k)
 
 pub overflow_sub-left : goal.overflow_sub-left
 overflow_sub-left c = rw (power (goal.at.overflow_sub-left c).After-log2-k) (log2-low _ c.loop-left-test.true)

@@ -10,23 +10,19 @@ use Rattle.tree.proofs.Falling.{falling-most}
 use Rattle.lifting.specs.Stored.{row}
 use Rattle.lifting.proofs.Raising.{raised-gives}
 use Rattle.lifting.proofs.raise.raised.Goals as goal
-use Rattle.lifting.proofs.raise.raised.Goals.{After-apart-low}
+use Rattle.lifting.proofs.raise.raised.Goals.{After-falling-low}
 
 -- there is room for one row more
-room : (c : After-apart-low) → c.apart-low.result.lifts < 32
+room : (c : After-falling-low) → c.falling-low.result.lifts < 32
 room c =
-    let t = own c.args.parents.now in
-    let most = falling-most (stays_apart t) (raise_both t) (suc (log2 (length c.args.parents.now))) (row c.args.x c.args.y) in
-    omega (arith, c.requires.3, c.apart-low.ensures.count)
+    let t = own c.args.sheet.now in
+    let most = falling-most (stays_apart t) (raise_both t) (suc (log2 (length c.args.sheet.now))) (row c.args.level.x c.args.level.y) in
+    omega (arith, c.requires.2, c.falling-low.ensures.count)
 
 pub store-requires : goal.store-requires
-store-requires c = omega (arith, room (goal.at.store-requires c).After-apart-low)
+store-requires c = omega (arith, room (goal.at.store-requires c).After-falling-low)
 
 pub returns : goal.returns
 returns c =
-    let up = c.raise_both-up in
-    let low = c.apart-low in
-    raised-gives low.ensures up.ensures.0 up.ensures.1 c.store.ensures
-
-pub overflow_add-result : goal.overflow_add-result
-overflow_add-result c = omega (arith, room (goal.at.overflow_add-result c).After-apart-low)
+    let up = c.raise_both-up.ensures in
+    rw c.store.ensures.raised (raised-gives c.falling-low.ensures (rw c.pair.ensures at up.0) up.1 c.store.ensures.cells)
