@@ -64,7 +64,7 @@ module _ (s : List ℕ) where
 
   abbrev refs : {A : Type 0} → List ℕ → A → Refs A
   refs question more =
-      let tables = record { parents = ref s; label = ref (label_table s); tour = ref (tour_table s); lift = ref (lift_table s); order = ref (preorder s) } in
+      let tables : lent_refs.Lent = record { parents = ref s; label = ref (label_table s); tour = ref (tour_table s); lift = ref (lift_table s); order = ref (preorder s) } in
       (tables, (mut_ref (clear s), (ref question, more)))
 
   -- of pairs and of a list

@@ -19,24 +19,24 @@ asked c = let a = c.args in asked_by (lent_in a.lent) a.work.now a.question.now 
 
 pub trail-requires : goal.trail-requires
 trail-requires c =
-    let ready = admitted-answerable (asked (goal.at.trail-requires c).Start) _ c.admit-sheet.ensures.gives c.in_ok-admit.was in
+    let ready = admitted-answerable (asked (goal.at.trail-requires c).Start) _ c.admit.ensures.gives c.in_ok-sheet.was in
     let (two, one, whole) =
     trail_fit_lem (length (asked (goal.at.trail-requires c).Start).question) (length (asked (goal.at.trail-requires c).Start).answer)
     (length c.args.rows.now) (sym c.trail_unfit-unfit.ensures ∙ ready.owned.fits) in
-    (question-pair ready.listed 0 (omega arith), two, one, whole, ready.owned.label, ready.owned.lift)
+    rw c.in_ok-sheet.ensures.same (question-pair ready.listed 0 (omega arith), two, one, whole)
 
 pub returns : goal.returns
 returns c =
-    let ready = admitted-answerable (asked (goal.at.returns c).Start) _ c.admit-sheet.ensures.gives c.in_ok-admit.was in
+    let ready = admitted-answerable (asked (goal.at.returns c).Start) _ c.admit.ensures.gives c.in_ok-sheet.was in
     let (two, _, _) =
     trail_fit_lem (length (asked (goal.at.returns c).Start).question) (length (asked (goal.at.returns c).Start).answer)
     (length c.args.rows.now) (sym c.trail_unfit-unfit.ensures ∙ ready.owned.fits) in
-    let done = c.trail.ensures in
+    let done = rw c.in_ok-sheet.ensures.same at c.trail.ensures in
     trail-answered (asked (goal.at.returns c).Start) c.args.rows.now
-    (admitted-as (asked (goal.at.returns c).Start) c.trail_unfit-unfit.ensures c.admit-sheet.ensures.gives) c.in_ok-admit.was
+    (admitted-as (asked (goal.at.returns c).Start) c.trail_unfit-unfit.ensures c.admit.ensures.gives) c.in_ok-sheet.was
     done.0 done.1 done.2 two
 
-pub returns-in_err-admit : goal.returns-in_err-admit
-returns-in_err-admit c =
-    trail-refused (asked (goal.at.returns-in_err-admit c).Start) c.args.rows.now
-    (admitted-as (asked (goal.at.returns-in_err-admit c).Start) c.trail_unfit-unfit.ensures c.admit-sheet.ensures.gives) c.in_err-admit.was (handed_on c.from_residual.result c.from_residual.ensures.1)
+pub returns-in_err-sheet : goal.returns-in_err-sheet
+returns-in_err-sheet c =
+    trail-refused (asked (goal.at.returns-in_err-sheet c).Start) c.args.rows.now
+    (admitted-as (asked (goal.at.returns-in_err-sheet c).Start) c.trail_unfit-unfit.ensures c.admit.ensures.gives) c.in_err-sheet.was (handed_on c.from_residual.result c.from_residual.ensures.1)
