@@ -1,7 +1,6 @@
 // A run, and what is printed of it. Before a run its buffer holds sevens.
 
 use crate::bytes;
-use console::Written;
 
 // Runs the program on the first n bytes of a buffer, and writes into one of 4,096 bytes.
 pub fn first(name: &[u8], buffer: &[u8], n: usize) {
@@ -30,8 +29,8 @@ pub fn title(name: &[u8]) {
 pub fn run(input: &[u8], out: &mut [u8]) {
     bytes::fill(out, 7);
     match console::run(input, out) {
-        Written::Text(n) => text(out, n),
-        Written::Short(n) => short(out, n),
+        Ok(n) => text(out, n),
+        Err(lack) => short(out, lack.needed),
     }
 }
 

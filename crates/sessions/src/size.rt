@@ -1,7 +1,6 @@
 // Buffers that hold what is printed, and that are short; and what is printed of a long text.
 
 use crate::{bytes, show};
-use console::Written;
 
 // Runs inputs in buffers of `room` bytes, of one less, and of none.
 pub fn all() {
@@ -45,8 +44,8 @@ pub fn summary(name: &[u8], buffer: &[u8], n: usize) {
 fn run(input: &[u8], out: &mut [u8]) {
     bytes::fill(out, 7);
     match console::run(input, out) {
-        Written::Text(n) => sum_of(input.len(), out, n),
-        Written::Short(n) => show::short(out, n),
+        Ok(n) => sum_of(input.len(), out, n),
+        Err(lack) => show::short(out, lack.needed),
     }
 }
 
