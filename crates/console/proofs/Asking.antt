@@ -63,7 +63,7 @@ lines-some x b e =
     by-test (eqb x lf) (λ p. let z : ◌≡◌ {A = ℕ} 0 1 = cc in omega arith) (λ p. before-some x (lines b) (rw p at e))
 
 -- no bytes are no line
-none_left : (reader : Reader) → left_by reader ≤ 0 → rest_of reader ≡ tail []
+none_left : (reader : Reader) → left_by reader ≡ 0 → rest_of reader ≡ tail []
 unfolding lines
 none_left reader h = let all : length reader.input.now ≤ reader.at = omega arith in rw (drop_of_length-le reader.input.now all) refl
 
@@ -103,7 +103,7 @@ module _ {all : Lines} {first : ℕ} {s entry : List ℕ} {put : ℕ} (room : Ro
       rw whole (puts_then d.text rest (rw whole at room) d.puts p)
 
   -- at the end all are answered
-  pub answered-all : left_by before ≤ 0 → Puts entry put (questions s first all) out next
+  pub answered-all : left_by before ≡ 0 → Puts entry put (questions s first all) out next
   unfolding questions leftover
   answered-all h =
       let last : questions s number (rest_of before) ≡ [] = rw (none_left before h) refl in

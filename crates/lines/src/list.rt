@@ -15,7 +15,8 @@ pub struct Numbers {
 }
 
 impl Numbers {
-    ghost use Rattle.std.specs.Prelude.{◌≡◌, ◌<◌, [], ◌∷◌, ◌++◌, length, leb};
+    ghost use Rattle.std.specs.Prelude.{◌≡◌, ◌<◌, ◌≤◌, [], ◌∷◌, ◌++◌, length};
+    ghost use Rattle.std.specs.Bool.{MatchBool};
     ghost use Rattle.lines.specs.Forms.{most_listed};
     ghost use Rattle.lines.specs.Gives.{numbers_of};
 
@@ -31,7 +32,7 @@ impl Numbers {
 
     // Whether there are as many as there can be.
     pub(crate) fn is_full(&self) -> bool
-        ensures { result ≡ leb most_listed (length (numbers_of self.now)) }
+        ensures { MatchBool result (most_listed ≤ length (numbers_of self.now)) (length (numbers_of self.now) < most_listed) }
     {
         MOST_LISTED <= self.count
     }

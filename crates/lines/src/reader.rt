@@ -14,7 +14,8 @@ pub struct Reader<'a> {
 }
 
 impl<'a> Reader<'a> {
-    ghost use Rattle.std.specs.Prelude.{◌≡◌, ltb};
+    ghost use Rattle.std.specs.Prelude.{◌≡◌, ◌<◌};
+    ghost use Rattle.std.specs.Bool.{MatchBool};
     ghost use Rattle.lines.specs.Gives.{left_by};
 
     // A reader of the input, at its first line.
@@ -26,7 +27,7 @@ impl<'a> Reader<'a> {
 
     // Whether bytes are left.
     pub fn has_more(&self) -> bool
-        ensures { result ≡ ltb 0 (left_by self.now) }
+        ensures { MatchBool result (0 < left_by self.now) (left_by self.now ≡ 0) }
     {
         self.at < self.input.len()
     }

@@ -58,21 +58,21 @@ module _ {b : List ℕ} {at first v i : ℕ} (r : Reading b at first v i) where
 
   module _ (h : i < length b) where
     -- a byte that is no digit ends it
-    pub reading-stop : is_digit (get_or b i 0) ≡ false → FindsNumber b (number_from first (drop at b)) (Some (v, i))
-    reading-stop d = record { is = sym (r.is ∙ number-next b v i h ∙ rw d refl); within = r.within }
+    pub reading-stop : false ≡ is_digit (get_or b i 0) → FindsNumber b (number_from first (drop at b)) (Some (v, i))
+    reading-stop d = record { is = sym (r.is ∙ number-next b v i h ∙ rw (← d) refl); within = r.within }
 
-    module _ (d : is_digit (get_or b i 0) ≡ true) where
+    module _ (d : true ≡ is_digit (get_or b i 0)) where
       -- a digit goes on with it
       pub reading-more : {w : ℕ} → w ≡ 10 * v + digit (get_or b i 0) → w ≤ highest → Reading b at first w (i + 1)
       reading-more e s = record {
         within = omega arith;
         small = s;
-        is = rw (add-one, e) (r.is ∙ number-next b v i h ∙ rw (d, le-leb _ _ (rw e at s)) refl);
+        is = rw (add-one, e) (r.is ∙ number-next b v i h ∙ rw (← d, le-leb _ _ (rw e at s)) refl);
       }
 
       -- a digit makes it too large
       pub reading-large : highest < 10 * v + digit (get_or b i 0) → FindsNumber b (number_from first (drop at b)) None
-      reading-large s = record { is = sym (r.is ∙ number-next b v i h ∙ rw (d, lt-leb _ _ s) refl); within = tt }
+      reading-large s = record { is = sym (r.is ∙ number-next b v i h ∙ rw (← d, lt-leb _ _ s) refl); within = tt }
 
 -- ---- a number's first byte
 

@@ -2,8 +2,6 @@
 -- has grown by no more than the reader moved.
 -- Assumes nothing.
 use native.Mathlib.Omega.{arith}
-use mathlib.Core.Path.{sym, ◌∙◌}
-use borrow.Author.Tests.{ltb-true, ltb-false}
 use borrow.Author.Rules.{rules}
 use Rattle.lines.proofs.Taking.{nearer}
 use Rattle.console.proofs.Asking.{answered-none, answered-all, question-room, question-answered, illegible-room, illegible-last}
@@ -13,23 +11,21 @@ pub loop-reader-init : goal.loop-reader-init
 loop-reader-init c = record { answered = answered-none _ _ _ _ _ (omega arith); numbered = search rules }
 
 pub refusal-requires : goal.refusal-requires
-refusal-requires c = illegible-room c.requires.room _ c.loop-reader.invariant.answered (ltb-true _ _ (sym c.has_more.ensures ∙ c.loop-reader-test.true)) c.in_default.ensures
+refusal-requires c = illegible-room c.requires.room _ c.loop-reader.invariant.answered c.loop-reader-test.ensures c.in_default.ensures
 
 pub returns-in_default : goal.returns-in_default
 returns-in_default c =
-    illegible-last c.requires.room _ c.loop-reader.invariant.answered (ltb-true _ _ (sym c.has_more.ensures ∙ c.loop-reader-test.true)) c.in_default.ensures c.refusal.ensures
+    illegible-last c.requires.room _ c.loop-reader.invariant.answered c.loop-reader-test.ensures c.in_default.ensures c.refusal.ensures
 
 pub answer-next-requires-clause-room : goal.answer-next-requires-clause-room
 answer-next-requires-clause-room c =
-    question-room c.requires.room _ c.loop-reader.invariant.answered (ltb-true _ _ (sym c.has_more.ensures ∙ c.loop-reader-test.true)) c.in-Some.ensures
+    question-room c.requires.room _ c.loop-reader.invariant.answered c.loop-reader-test.ensures c.in-Some.ensures
 
 pub loop-reader-preserved : goal.loop-reader-preserved
-loop-reader-preserved c =
-    let more = ltb-true _ _ (sym c.has_more.ensures ∙ c.loop-reader-test.true) in
-    record {
-      answered = question-answered c.requires.room _ c.loop-reader.invariant.answered more c.in-Some.ensures c.answer-next.ensures;
-      numbered = omega (arith, nearer c.in-Some.ensures);
-    }
+loop-reader-preserved c = record {
+  answered = question-answered c.requires.room _ c.loop-reader.invariant.answered c.loop-reader-test.ensures c.in-Some.ensures c.answer-next.ensures;
+  numbered = omega (arith, nearer c.in-Some.ensures);
+}
 
 pub returns : goal.returns
-returns c = answered-all c.requires.room c.loop-reader.reader c.loop-reader.invariant.answered (ltb-false _ _ (sym c.has_more.ensures ∙ c.loop-reader-test.false))
+returns c = answered-all c.requires.room c.loop-reader.reader c.loop-reader.invariant.answered c.loop-reader-test.ensures

@@ -1,31 +1,28 @@
 -- `text::read::number_from` meets its contract: the digits before i make v.
 -- Assumes nothing.
-use Rattle.std.proofs.Common.{◌≡◌, sym, ◌∙◌, length, arith}
+use Rattle.std.proofs.Common.{◌≡◌, length, arith}
 use Rattle.text.proofs.Finding.{reading-more, reading-large, reading-stop, reading-end}
 use Rattle.text.proofs.read.number_from.Goals as goal
 
 -- a byte that is no digit ends the number
 pub returns-then-not-is_ascii_digit : goal.returns-then-not-is_ascii_digit
-returns-then-not-is_ascii_digit c = reading-stop c.loop-i.invariant (omega arith) (sym c.is_ascii_digit.ensures.value ∙ c.if-not-is_ascii_digit.true)
+returns-then-not-is_ascii_digit c = reading-stop c.loop-i.invariant (omega arith) c.if-not-is_ascii_digit.ensures.value
 
 -- a digit makes it too large
 pub returns-in_err-checked_mul : goal.returns-in_err-checked_mul
 returns-in_err-checked_mul c =
-    let digit = sym c.is_ascii_digit.ensures.value ∙ c.if-not-is_ascii_digit.false in
-    rw c.from_residual.ensures (reading-large c.loop-i.invariant (omega arith) digit (omega (arith, c.in_err-checked_mul.ensures)))
+    rw c.from_residual.ensures (reading-large c.loop-i.invariant (omega arith) c.if-not-is_ascii_digit.ensures.value (omega (arith, c.in_err-checked_mul.ensures)))
 
 pub returns-in_err-v : goal.returns-in_err-v
 returns-in_err-v c =
-    let digit = sym c.is_ascii_digit.ensures.value ∙ c.if-not-is_ascii_digit.false in
-    rw c.from_residual-in_err-v.ensures (reading-large c.loop-i.invariant (omega arith) digit (omega (arith, c.in_ok-checked_mul.ensures, c.in_err-v.ensures)))
+    rw c.from_residual-in_err-v.ensures (reading-large c.loop-i.invariant (omega arith) c.if-not-is_ascii_digit.ensures.value (omega (arith, c.in_ok-checked_mul.ensures, c.in_err-v.ensures)))
 
 -- a digit goes on with it
 pub loop-i-preserved : goal.loop-i-preserved
 loop-i-preserved c =
-    let digit = sym c.is_ascii_digit.ensures.value ∙ c.if-not-is_ascii_digit.false in
     let (few, tens) = c.in_ok-checked_mul.ensures in
     let (fits, sum) = c.in_ok-v.ensures in
-    reading-more c.loop-i.invariant (omega arith) digit (omega arith) (omega arith)
+    reading-more c.loop-i.invariant (omega arith) c.if-not-is_ascii_digit.ensures.value (omega arith) (omega arith)
 
 -- the bytes' end ends it
 pub returns : goal.returns
