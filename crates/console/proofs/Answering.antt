@@ -1,7 +1,7 @@
 -- What is printed of a question: where the tables are the sheet's own and the buffers fit, the question alone decides, and the calls give its carrier,
 -- its branches and its lifts.
 -- Assumes nothing.
-use Prim.Native.Nat.{ℕ, ◌<◌}
+use Prim.Native.Nat.{ℕ}
 use native.Mathlib.Omega.{arith}
 use mathlib.Core.Path.{◌≡◌, refl, sym, ap, ap₂, ◌∙◌}
 use mathlib.Core.List.{List, [], ◌∷◌}
@@ -12,7 +12,7 @@ use Rattle.tree.specs.declared.Outcome.TheVariants as outcome
 use Rattle.tree.specs.declared.Traced.{Traced}
 use Rattle.tree.specs.declared.Traced.TheVariants as traced
 use Rattle.tree.specs.Verdict.{Verdict, accepted, refused, verdict_of, told, lifts_of}
-use Rattle.tree.specs.Tests.{verdict, limit, question_tests}
+use Rattle.tree.specs.Tests.{verdict, question_tests}
 use Rattle.tree.specs.Buffers.{answer_width, trail_cells}
 use Rattle.tree.specs.Lca.{Lca, lca}
 use Rattle.tree.specs.Tables.{Lent}
@@ -24,13 +24,13 @@ use Rattle.tree.proofs.Claims.{one-carrier, one_answer}
 use Rattle.tree.proofs.Owning.{question-decides}
 use Rattle.routes.specs.Answers.{Asked, PairsGive, TrailGives, ListGives}
 use Rattle.lines.specs.Forms.{pair, many}
-use Rattle.console.specs.Print.{pair_line, many_line, given}
+use Rattle.console.specs.Print.{refusal, refusal_line, pair_line, many_line, given}
 use Rattle.console.specs.Run.{answer}
-use Rattle.console.specs.Gives.{Stands, Found}
-use Rattle.console.proofs.Carriers.{carrier-small}
+use Rattle.console.specs.Gives.{Stands, answer_of, Found}
+use Rattle.console.specs.declared.print.PairAnswer.{PairAnswer}
 
 -- a verdict that refuses prints its line, whatever would be printed else
-pub given-refused : {v u : Verdict} {number place : ℕ} (text : List ℕ) → v ≡ refused number place → v ≡ u → given v [] ≡ given u text
+pub given-refused : {v u : Verdict} {number place : ℕ} (text : List ℕ) → v ≡ refused number place → v ≡ u → refusal number place ≡ given u text
 unfolding given
 given-refused text e same = rw (← same, e) refl
 
@@ -50,14 +50,11 @@ module _ {t : Lent} {work : List ℕ} (stands : Stands t work) where
       ap (λ (u : Lent). asked_verdict u work question further) stands.tables
       ∙ question-decides t.parents stands.accepts work question further stands.room fits
 
-  -- a carrier of an accepted question is a part, and the one that the climber finds
-  carrier-is : (question : List ℕ) (c : ℕ) → verdict (question_tests t.parents 0 question) ≡ accepted → Lca t.parents question c
-      → (c < limit) × (c ≡ lca t.parents question)
+  -- a carrier of an accepted question is the one that the climber finds
+  carrier-is : (question : List ℕ) (c : ℕ) → verdict (question_tests t.parents 0 question) ≡ accepted → Lca t.parents question c → c ≡ lca t.parents question
   carrier-is question c e l =
-      let (some, inside) = question-accepted t.parents 0 question e in (
-        carrier-small t.parents stands.accepts question e c l,
-        (one-carrier t.parents stands.accepts question some (question-parts t.parents question inside)).1 c l,
-      )
+      let (some, inside) = question-accepted t.parents 0 question e in
+      (one-carrier t.parents stands.accepts question some (question-parts t.parents question inside)).1 c l
 
   -- ---- a pair by a route
 
@@ -68,12 +65,12 @@ module _ {t : Lent} {work : List ℕ} (stands : Stands t work) where
     pair-decides = g.answered.outcome ∙ decides (x ∷ y ∷ []) _ (pairs-fitting 2 (length cells) refl three)
 
     -- refused
-    pub pair-refused : {why : Refusal} → r ≡ outcome.Refused why → given (verdict_of r) [] ≡ answer t.parents (pair x y)
+    pub pair-refused : {why : Refusal} → r ≡ outcome.Refused why → refusal_line why ≡ answer t.parents (pair x y)
     unfolding answer
     pair-refused e = given-refused _ (ap verdict_of e) pair-decides
 
     -- answered: its carrier and both branches are found
-    pub pair_found : r ≡ outcome.Accepted → Found t.parents x y (get_or cells' 0 0) (get_or cells' 1 0) (get_or cells' 2 0)
+    pub pair_found : r ≡ outcome.Accepted → Found t.parents x y (record { carrier = get_or cells' 0 0; left = get_or cells' 1 0; right = get_or cells' 2 0 })
     pair_found e =
         let yes = sym pair-decides ∙ ap verdict_of e in
         let (_, inside) = question-accepted t.parents 0 (x ∷ y ∷ []) yes in
@@ -90,13 +87,13 @@ module _ {t : Lent} {work : List ℕ} (stands : Stands t work) where
         g.answered.outcome ∙ decides (x ∷ y ∷ []) _ (trail-fitting 2 (length cells) (length rows) refl one whole)
 
     -- refused
-    pub trail-refused : {why : Refusal} → r ≡ traced.Refused why → given (verdict_of (told r)) [] ≡ answer t.parents (pair x y)
+    pub trail-refused : {why : Refusal} → r ≡ traced.Refused why → refusal_line why ≡ answer t.parents (pair x y)
     unfolding answer
     trail-refused e = given-refused _ (ap (λ (u : Traced). verdict_of (told u)) e) trail-decides
 
     -- traced: with the carrier and the branches that were found, its line is known
-    pub pair-answered : {lifts carrier left right : ℕ} → r ≡ traced.Lifts lifts → Found t.parents x y carrier left right
-        → pair_line x y (record { carrier = carrier; left = left; right = right }) lifts ≡ answer t.parents (pair x y)
+    pub pair-answered : {lifts : ℕ} {a : PairAnswer} → r ≡ traced.Lifts lifts → Found t.parents x y a
+        → pair_line x y (answer_of a) lifts ≡ answer t.parents (pair x y)
     unfolding answer
     pair-answered {lifts} e found =
         let yes : verdict_of (told r) ≡ accepted = ap (λ (u : Traced). verdict_of (told u)) e in
@@ -111,7 +108,7 @@ module _ {t : Lent} {work : List ℕ} (stands : Stands t work) where
     list-decides = g.answered.outcome ∙ decides question _ (list-fitting (length cells) one)
 
     -- refused
-    pub many-refused : {why : Refusal} → r ≡ outcome.Refused why → given (verdict_of r) [] ≡ answer t.parents (many question)
+    pub many-refused : {why : Refusal} → r ≡ outcome.Refused why → refusal_line why ≡ answer t.parents (many question)
     unfolding answer
     many-refused e = given-refused _ (ap verdict_of e) list-decides
 
@@ -120,14 +117,10 @@ module _ {t : Lent} {work : List ℕ} (stands : Stands t work) where
       list-yes : verdict_of r ≡ accepted
       list-yes = ap verdict_of e
 
-      list-carrier : (get_or cells' 0 0 < limit) × (get_or cells' 0 0 ≡ lca t.parents question)
+      list-carrier : get_or cells' 0 0 ≡ lca t.parents question
       list-carrier = carrier-is _ _ (sym list-decides ∙ list-yes) (g.carrier (sym g.answered.outcome ∙ list-yes))
-
-      -- which is small
-      pub many-small : get_or cells' 0 0 < limit
-      many-small = list-carrier.0
 
       -- answered
       pub many-answered : many_line question (get_or cells' 0 0) ≡ answer t.parents (many question)
       unfolding answer
-      many-answered = rw list-carrier.1 (given-accepted _ list-yes list-decides)
+      many-answered = rw list-carrier (given-accepted _ list-yes list-decides)

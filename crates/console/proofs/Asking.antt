@@ -11,17 +11,19 @@ use lib.ListN.{length, drop, get_or, drop_of_length-le}
 use lib.Seq.{drop-cons}
 use Rattle.tree.proofs.Scans.{by-test}
 use Rattle.text.specs.Bytes.{lf}
+use Rattle.std.specs.Prelude as std
+use Rattle.std.specs.Prelude.{Some, None}
+use Rattle.text.specs.Found.{found_as}
 use Rattle.text.specs.Lines.{Lines, tail, line, before, lines}
 use Rattle.text.specs.Puts.{Room, Puts}
-use Rattle.text.proofs.Putting.{puts_none, puts-length, puts_then, room-first, room-then}
+use Rattle.text.proofs.Putting.{puts_none, puts_then, room-first, room-then}
 use Rattle.lines.specs.Forms.{Query, Form, machine, part, asked}
 use Rattle.lines.specs.Read.{read, next, query, next_as}
-use Rattle.lines.specs.Gives.{query_of}
+use Rattle.lines.specs.Gives.{query_of, rest_of, left_by}
+use Rattle.lines.specs.declared.reader.Reader.{Reader}
 use Rattle.lines.specs.declared.form.Question.{Question}
 use Rattle.console.specs.Run.{illegible, answer, leftover, questions}
-use Rattle.console.specs.Gives.{asks_of, AsksGive}
-use Rattle.console.specs.declared.ask.Asks.{Asks}
-use Rattle.console.specs.declared.ask.Asks.TheVariants as asks
+use Rattle.console.specs.Gives.{AsksGive}
 
 -- ---- a line
 
@@ -48,7 +50,7 @@ module _ (s : List ℕ) (number : ℕ) where
   line-prints (tail (x ∷ b)) some_left = refl
   line-prints (line b rest) some_left = form-prints (read b) rest
 
--- ---- a position of the input
+-- ---- what a reader has before it
 
 -- a byte leaves something to read
 before-some : (x : ℕ) (l : Lines) → before x l ≡ tail [] → ⊥
@@ -60,82 +62,80 @@ unfolding lines
 lines-some x b e =
     by-test (eqb x lf) (λ p. let z : ◌≡◌ {A = ℕ} 0 1 = cc in omega arith) (λ p. before-some x (lines b) (rw p at e))
 
--- what was found at a position says what is printed from there on
-here-prints : {input : List ℕ} {i : ℕ} {beside : List ℕ} {r : Asks} (s : List ℕ) (number : ℕ) → AsksGive input i beside r → i < length input
-    → questions s number (lines (drop i input)) ≡ printed s number (asks_of input beside r)
-here-prints {input} {i} s number g h =
-    line-prints s number (lines (drop i input)) (rw (drop-cons input i 0 h) (lines-some (get_or input i 0) (drop (suc i) input)))
+-- no bytes are no line
+none_left : (reader : Reader) → left_by reader ≡ 0 → rest_of reader ≡ tail []
+unfolding lines
+none_left reader h = let all : length reader.input.now ≤ reader.at = omega arith in rw (drop_of_length-le reader.input.now all) refl
+
+-- what was found says what is printed from there on
+here-prints : (before after : Reader) {r : std.Option Question} (s : List ℕ) (number : ℕ) → AsksGive before after r → 0 < left_by before
+    → questions s number (rest_of before) ≡ printed s number (found_as (λ q. (query_of q, rest_of after)) r)
+here-prints before after s number g h =
+    let i = before.at in
+    let input = before.input.now in
+    let some_left : i < length input = omega arith in
+    line-prints s number (rest_of before) (rw (drop-cons input i 0 some_left) (lines-some (get_or input i 0) (drop (suc i) input)))
     ∙ ap (printed s number) (sym g.is)
 
 -- ---- the loop
 
--- the questions from position `at` to position i are answered, the first of which is line `first`; the one at i is line `number`. `out` was `entry`
-pub record AnsweredUpto (input : List ℕ) (at first : ℕ) (s entry : List ℕ) (put : ℕ) (out : List ℕ) (i number next : ℕ) : Type 0 where
-  pub within : i ≤ length input
-  pub numbered : number ≤ first + i
+-- the questions of some lines are answered up to those that are left, the first of which is line `number`. `out` was `entry`
+pub record AnsweredUpto (all : Lines) (first : ℕ) (s entry : List ℕ) (put : ℕ) (out : List ℕ) (left : Lines) (number next : ℕ) : Type 0 where
   pub text : List ℕ
   pub puts : Puts entry put text out next
-  pub is : questions s first (lines (drop at input)) ≡ text ++ questions s number (lines (drop i input))
+  pub is : questions s first all ≡ text ++ questions s number left
 
 -- before the first
-pub answered-none : (input : List ℕ) (at first : ℕ) (s entry : List ℕ) (put : ℕ) → at ≤ length input → put ≤ length entry
-    → AnsweredUpto input at first s entry put entry at first put
-answered-none input at first s entry put h r = record { within = h; numbered = omega arith; text = []; puts = puts_none r; is = refl }
+pub answered-none : (all : Lines) (first : ℕ) (s entry : List ℕ) (put : ℕ) → put ≤ length entry → AnsweredUpto all first s entry put entry all first put
+answered-none all first s entry put r = record { text = []; puts = puts_none r; is = refl }
 
-module _ {input : List ℕ} {at first : ℕ} {s entry : List ℕ} {put : ℕ} (room : Room entry put (questions s first (lines (drop at input))))
-    {out : List ℕ} {i number next : ℕ} (d : AnsweredUpto input at first s entry put out i number next) where
+module _ {all : Lines} {first : ℕ} {s entry : List ℕ} {put : ℕ} (room : Room entry put (questions s first all))
+    {out : List ℕ} (before : Reader) {number next : ℕ} (d : AnsweredUpto all first s entry put out (rest_of before) number next) where
   -- there is room for what is printed from here on
-  rest-room : {rest : List ℕ} → questions s number (lines (drop i input)) ≡ rest → Room out next rest
+  rest-room : {rest : List ℕ} → questions s number (rest_of before) ≡ rest → Room out next rest
   rest-room e = room-then d.text _ (rw (d.is, e) at room) d.puts
 
   -- and once it is printed, all is
-  rest-last : {rest out' : List ℕ} {next' : ℕ} → questions s number (lines (drop i input)) ≡ rest → Puts out next rest out' next'
-      → Puts entry put (questions s first (lines (drop at input))) out' next'
+  rest-last : {rest out' : List ℕ} {next' : ℕ} → questions s number (rest_of before) ≡ rest → Puts out next rest out' next'
+      → Puts entry put (questions s first all) out' next'
   rest-last {rest} e p =
-      let whole : questions s first (lines (drop at input)) ≡ d.text ++ rest = d.is ∙ ap (λ (u : List ℕ). d.text ++ u) e in
+      let whole : questions s first all ≡ d.text ++ rest = d.is ∙ ap (λ (u : List ℕ). d.text ++ u) e in
       rw whole (puts_then d.text rest (rw whole at room) d.puts p)
 
-  -- the buffer keeps its length
-  pub answered-length : length out ≡ length entry
-  answered-length = puts-length (room-first _ d.text _ (rw d.is at room)) d.puts
-
-  -- at the input's end all are answered
-  pub answered-all : length input ≤ i → Puts entry put (questions s first (lines (drop at input))) out next
-  unfolding questions lines leftover
+  -- at the end all are answered
+  pub answered-all : left_by before ≡ 0 → Puts entry put (questions s first all) out next
+  unfolding questions leftover
   answered-all h =
-      let none_left : questions s number (lines (drop i input)) ≡ [] = rw (drop_of_length-le input h) refl in
-      rest-last none_left (puts_none (omega (arith, rest-room none_left)))
+      let last : questions s number (rest_of before) ≡ [] = rw (none_left before h) refl in
+      rest-last last (puts_none (omega (arith, rest-room last)))
 
-  module _ {beside : List ℕ} {r : Asks} (g : AsksGive input i beside r) where
-    module _ {q : Question} {end : ℕ} (e : r ≡ asks.Question q end) where
+  module _ {after : Reader} (h : 0 < left_by before) where
+    module _ {q : Question} (g : AsksGive before after (Some q)) where
       -- a question stands here
-      here : questions s number (lines (drop i input)) ≡ answer s (query_of beside q) ++ questions s (suc number) (lines (drop end input))
-      here = let (further, inside) = g.further q end e in here-prints s number g (omega arith) ∙ ap (λ (u : Asks). printed s number (asks_of input beside u)) e
+      here : questions s number (rest_of before) ≡ answer s (query_of q) ++ questions s (suc number) (rest_of after)
+      here = here-prints before after s number g h
 
       -- there is room for its answer
-      pub question-room : Room out next (answer s (query_of beside q))
-      question-room = room-first _ (answer s (query_of beside q)) _ (rest-room here)
+      pub question-room : Room out next (answer s (query_of q))
+      question-room = room-first _ (answer s (query_of q)) _ (rest-room here)
 
       -- and it is answered
-      pub question-answered : {out' : List ℕ} {next' : ℕ} → Puts out next (answer s (query_of beside q)) out' next'
-          → AnsweredUpto input at first s entry put out' end (number + 1) next'
+      pub question-answered : {out' : List ℕ} {next' : ℕ} → Puts out next (answer s (query_of q)) out' next'
+          → AnsweredUpto all first s entry put out' (rest_of after) (number + 1) next'
       question-answered p =
-          let own = answer s (query_of beside q) in
-          let whole : questions s first (lines (drop at input)) ≡ (d.text ++ own) ++ questions s (suc number) (lines (drop end input)) =
+          let own = answer s (query_of q) in
+          let whole : questions s first all ≡ (d.text ++ own) ++ questions s (suc number) (rest_of after) =
           rw append_assoc (d.is ∙ ap (λ (u : List ℕ). d.text ++ u) here) in
-          let (further, inside) = g.further q end e in
           record {
-            within = inside;
-            numbered = omega (arith, d.numbered);
             text = d.text ++ own;
             puts = puts_then d.text own (room-first _ (d.text ++ own) _ (rw whole at room)) d.puts p;
             is = rw add-one whole;
           }
 
-    module _ (e : r ≡ asks.Illegible) (h : i < length input) where
+    module _ (g : AsksGive before after None) where
       -- something else does
-      broken : questions s number (lines (drop i input)) ≡ illegible number
-      broken = here-prints s number g h ∙ ap (λ (u : Asks). printed s number (asks_of input beside u)) e
+      broken : questions s number (rest_of before) ≡ illegible number
+      broken = here-prints before after s number g h
 
       -- there is room for its line
       pub illegible-room : Room out next (illegible number)
@@ -143,5 +143,5 @@ module _ {input : List ℕ} {at first : ℕ} {s entry : List ℕ} {put : ℕ} (r
 
       -- with which all is printed
       pub illegible-last : {out' : List ℕ} {next' : ℕ} → Puts out next (illegible number) out' next'
-          → Puts entry put (questions s first (lines (drop at input))) out' next'
+          → Puts entry put (questions s first all) out' next'
       illegible-last p = rest-last broken p

@@ -5,17 +5,17 @@ use native.Mathlib.Omega.{arith}
 use mathlib.Core.Path.{◌≡◌, refl, sym, ap, ◌∙◌}
 use mathlib.Core.List.{List, ◌++◌}
 use borrow.Author.Tests.{le-leb, lt-leb}
-use lib.ListN.{length, drop}
-use Rattle.text.specs.Lines.{lines}
+use lib.ListN.{length}
+use Rattle.std.specs.Prelude as std
+use Rattle.std.specs.Prelude.{Ok, Err}
+use Rattle.tree.specs.declared.Refusal.{Refusal}
 use Rattle.text.specs.Puts.{Room, Puts}
 use Rattle.text.proofs.Putting.{over-start}
-use Rattle.lines.specs.Gives.{opening_of, StartGives}
-use Rattle.lines.specs.declared.machine.Start.{Start}
-use Rattle.lines.specs.declared.machine.Start.TheVariants.{Parts, Refused}
+use Rattle.lines.specs.Gives.{rest_of, opening_of, StartGives}
+use Rattle.lines.specs.declared.reader.Reader.{Reader}
 use Rattle.console.specs.Print.{refusal_line, machine_line}
 use Rattle.console.specs.Run.{most_bytes, illegible, parts, sheet_run, machine_run, run, output}
 use Rattle.console.specs.Whole.{room, RunGives}
-use Rattle.console.specs.declared.Written.TheVariants.{Text, Short}
 use Rattle.console.proofs.Bounds.{output-bound}
 
 -- an input above the limit
@@ -24,34 +24,34 @@ unfolding output
 output-above input h = rw (lt-leb (length input) most_bytes h) refl
 
 -- what is printed by what the machine line gave
-abbrev pub start_text : List ℕ → Start → List ℕ
-start_text input (Parts n end) = machine_line n ++ sheet_run (parts n 0 (lines (drop end input)))
-start_text input (Refused why) = refusal_line why
+abbrev pub start_text : std.Result (ℕ × Reader) Refusal → List ℕ
+start_text (Ok (n, reader)) = machine_line n ++ sheet_run (parts n 0 (rest_of reader))
+start_text (Err why) = refusal_line why
 
 -- that is what the opening prints
-start-prints : (input : List ℕ) (r : Start) → start_text input r ≡ machine_run (opening_of input r)
+start-prints : (r : std.Result (ℕ × Reader) Refusal) → start_text r ≡ machine_run (opening_of r)
 unfolding machine_run
-start-prints input (Parts n end) = refl
-start-prints input (Refused why) = refl
+start-prints (Ok (n, reader)) = refl
+start-prints (Err why) = refl
 
 -- an input within the limit prints it
-pub output-within : {input : List ℕ} {r r' : Start} → length input ≤ most_bytes → StartGives input r → r ≡ r' → start_text input r' ≡ output input
+pub output-within : {input : List ℕ} {r : std.Result (ℕ × Reader) Refusal} → length input ≤ most_bytes → StartGives input r → start_text r ≡ output input
 unfolding run output
-output-within {input} {r} h g e = rw e at (start-prints input r ∙ ap machine_run g.is) ∙ rw (le-leb (length input) most_bytes h) refl
+output-within {input} {r} h g = start-prints r ∙ ap machine_run g.is ∙ rw (le-leb (length input) most_bytes h) refl
 
 -- there is room for it
 pub output-room : (input out : List ℕ) {text : List ℕ} → room (length input) ≤ length out → text ≡ output input → Room out 0 text
 output-room input out {text} h e = let same : length text ≡ length (output input) = ap length e in omega (arith, output-bound input)
 
 -- a buffer that is too short is as it was
-pub run_short : {input out : List ℕ} {n : ℕ} → n ≡ room (length input) → length out < n → RunGives input out (Short n) out
+pub run_short : {input out : List ℕ} {n : ℕ} → n ≡ room (length input) → length out < n → RunGives input out (Err (record { needed = n })) out
 run_short {input} {out} {n} e h =
     let no_room = lt-leb (room (length input)) (length out) (rw e at h) in
     record { outcome = sym no_room; count = rw no_room e; buffer = rw no_room refl; bound = output-bound input }
 
 -- one that is not has the text at its start
 pub run-text : {input out out' : List ℕ} {n r : ℕ} → n ≡ room (length input) → n ≤ length out → Puts out 0 (output input) out' r
-    → RunGives input out (Text r) out'
+    → RunGives input out (Ok r) out'
 run-text {input} {out} {out'} {n} {r} e h p =
     let roomy = le-leb (room (length input)) (length out) (rw e at h) in
     let long : r ≡ length (output input) = omega (arith, p.place) in

@@ -5,7 +5,6 @@ pub mod Lengths
 pub mod Bounds
 pub mod Printed
 pub mod Sizes
-pub mod Taking
 pub mod Entering
 pub mod Ending
 pub mod Answering

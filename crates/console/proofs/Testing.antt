@@ -1,8 +1,8 @@
 -- The test of a sheet whose buffers fit: the sheet alone decides, and where it is accepted, questions are asked of it and its own tables.
 -- Assumes nothing.
-use Prim.Native.Nat.{ℕ, ◌≤◌, ◌<◌}
+use Prim.Native.Nat.{ℕ}
 use mathlib.Core.Path.{◌≡◌, refl, sym, ap, ◌∙◌}
-use mathlib.Core.List.{List, []}
+use mathlib.Core.List.{List}
 use borrow.Author.Tests.{eq-eqb}
 use lib.ListN.{length, length-replicate}
 use Rattle.tree.specs.declared.Refusal.{Refusal}
@@ -10,7 +10,7 @@ use Rattle.tree.specs.declared.Outcome.{Outcome}
 use Rattle.tree.specs.declared.Outcome.TheVariants.{Accepted, Refused}
 use Rattle.tree.specs.Verdict.{accepted, verdict_of}
 use Rattle.tree.specs.Tests.{verdict, sheet_tests}
-use Rattle.tree.specs.Buffers.{label_cells, tour_cells, lift_cells, order_cells, work_cells, filled}
+use Rattle.tree.specs.Buffers.{filled}
 use Rattle.tree.specs.Tables.{Lent}
 use Rattle.tree.specs.Lending.{unfit_of}
 use Rattle.tree.proofs.Answers.{filled-own}
@@ -18,24 +18,10 @@ use Rattle.tree.proofs.Fits.{fitting-none}
 use Rattle.tree.proofs.Stages.{stage-yes, stage-clear}
 use Rattle.tables.specs.Lend.{build_verdict, BuildGives}
 use Rattle.text.specs.Lines.{Lines}
-use Rattle.lines.specs.Machine.{most}
-use Rattle.console.specs.Print.{given}
+use Rattle.console.specs.Print.{refusal_line}
 use Rattle.console.specs.Run.{part_line, questions, sheet, sheet_run}
 use Rattle.console.specs.Gives.{Stands, Sized}
 use Rattle.console.proofs.Answering.{given-refused, given-accepted}
-
--- tables and work of n parts have their lengths
-pub sized_of : {t : Lent} {work : List ℕ} (n : ℕ) → 0 < n → n ≤ most → n ≡ length t.parents → label_cells n ≡ length t.label
-    → tour_cells n ≡ length t.tour → lift_cells n ≡ length t.lift → order_cells n ≡ length t.order → work_cells n ≡ length work → Sized t work
-sized_of n some small long label tour lift order room = record {
-  some = rw (← long) some;
-  small = rw (← long) small;
-  label_length = rw (← long) (sym label);
-  tour_length = rw (← long) (sym tour);
-  lift_length = rw (← long) (sym lift);
-  order_length = rw (← long) (sym order);
-  room = rw (← long) (sym room);
-}
 
 module _ {t : Lent} {work label' tour' lift' order' work' : List ℕ} {r : Outcome} (sized : Sized t work)
     (g : BuildGives t work r label' tour' lift' order' work') where
@@ -52,7 +38,7 @@ module _ {t : Lent} {work label' tour' lift' order' work' : List ℕ} {r : Outco
   sheet-decides = g.answered.outcome ∙ ap (λ (buffer : ℕ). verdict (sheet_tests t.parents buffer)) fits
 
   -- a refused sheet's line is all that is printed
-  pub sheet-refused : {why : Refusal} (rest : Lines) → r ≡ Refused why → given (verdict_of r) [] ≡ sheet_run (sheet t.parents rest)
+  pub sheet-refused : {why : Refusal} (rest : Lines) → r ≡ Refused why → refusal_line why ≡ sheet_run (sheet t.parents rest)
   unfolding sheet_run
   sheet-refused rest e = given-refused _ (ap verdict_of e) sheet-decides
 

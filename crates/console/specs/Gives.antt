@@ -1,62 +1,39 @@
--- What the functions of the program give: the enums of `src/`, as the definitions have them, and the positions that they give. `beside` are the numbers that
--- stand beside a many line.
+-- What the functions of the program give, as the definitions have it.
 -- Assumes nothing.
-use Rattle.std.specs.Prelude.{ℕ, ◌≤◌, ◌<◌, ◌≡◌, List, [], ◌∷◌, length, drop}
-use Rattle.std.proofs.Math.Option.{Option, none, some}
+use Rattle.std.specs.Prelude.{ℕ, ◌≤◌, ◌<◌, ◌≡◌, List, [], ◌∷◌, length, Option, Result, Ok, Err}
 use Rattle.tree.specs.Verdict.{accepted}
 use Rattle.tree.specs.Tests.{verdict, question_tests, Accepted}
 use Rattle.tree.specs.Buffers.{label_cells, tour_cells, lift_cells, order_cells, work_cells}
 use Rattle.tree.specs.Tables.{Lent, own}
-use Rattle.tree.specs.Branch.{pair_answer}
-use Rattle.text.specs.Lines.{Lines, lines}
-use Rattle.lines.specs.Forms.{Query}
+use Rattle.tree.specs.Branch.{Answer, pair_answer}
+use Rattle.text.specs.Lines.{Lines}
 use Rattle.lines.specs.Read.{entry, query, next_as}
 use Rattle.lines.specs.Machine.{most}
-use Rattle.lines.specs.Gives.{query_of, listed_by}
+use Rattle.lines.specs.Gives.{query_of, rest_of, Takes}
 use Rattle.lines.specs.declared.form.Question.{Question}
+use Rattle.lines.specs.declared.reader.Reader.{Reader}
 use Rattle.console.specs.Run.{Sheet, sheet, broken, parts}
-use Rattle.console.specs.declared.sheet.Entry.{Entry}
-use Rattle.console.specs.declared.sheet.Entry.TheVariants as parent
-use Rattle.console.specs.declared.sheet.Entries.{Entries}
-use Rattle.console.specs.declared.sheet.Entries.TheVariants as entries
-use Rattle.console.specs.declared.ask.Asks.{Asks}
-use Rattle.console.specs.declared.ask.Asks.TheVariants as asks
+use Rattle.console.specs.declared.print.PairAnswer.{PairAnswer}
 
 -- ---- the part lines
 
--- the entry of a part, and the lines after its line
-abbrev pub entry_of : List ℕ → Entry → Option (ℕ × Lines)
-entry_of input (parent.Parent p end) = some (p, lines (drop end input))
-entry_of input parent.Illegible = none
-
-pub record EntryGives (input : List ℕ) (at v : ℕ) (r : Entry) : Type 0 where
-  pub is : entry_of input r ≡ next_as (entry v) (lines (drop at input))
-  pub within : (p end : ℕ) → r ≡ parent.Parent p end → end ≤ length input
+-- the entry of part v
+abbrev pub EntryGives : ℕ → Reader → Reader → Option ℕ → Type 0
+EntryGives v before after r = Takes (λ p. p) (next_as (entry v) (rest_of before)) before after r
 
 -- the sheet, and the lines after it, or the number of the line at which it broke off
-abbrev pub sheet_of : List ℕ → List ℕ → Entries → Sheet
-sheet_of input s (entries.Whole end) = sheet s (lines (drop end input))
-sheet_of input s (entries.Illegible number) = broken number
+abbrev pub sheet_of : Lines → List ℕ → Result Unit ℕ → Sheet
+sheet_of rest s (Ok all) = sheet s rest
+sheet_of rest s (Err number) = broken number
 
-pub record EntriesGive (input : List ℕ) (at : ℕ) (s : List ℕ) (r : Entries) : Type 0 where
-  pub is : sheet_of input s r ≡ parts (length s) 0 (lines (drop at input))
-  pub within : (end : ℕ) → r ≡ entries.Whole end → end ≤ length input
+abbrev pub EntriesGive : Reader → Reader → List ℕ → Result Unit ℕ → Type 0
+EntriesGive before after s r = sheet_of (rest_of after) s r ≡ parts (length s) 0 (rest_of before)
 
 -- ---- the questions
 
--- a question, and the lines after its line
-abbrev pub asks_of : List ℕ → List ℕ → Asks → Option (Query × Lines)
-asks_of input beside (asks.Question q end) = some (query_of beside q, lines (drop end input))
-asks_of input beside asks.Illegible = none
-
--- a position of the input after another
-abbrev pub Further : List ℕ → ℕ → ℕ → Type 0
-Further input at end = (at < end) × (end ≤ length input)
-
-pub record AsksGive (input : List ℕ) (at : ℕ) (beside : List ℕ) (r : Asks) : Type 0 where
-  pub is : asks_of input beside r ≡ next_as query (lines (drop at input))
-  pub further : (q : Question) (end : ℕ) → r ≡ asks.Question q end → Further input at end
-  pub within : (q : Question) (end : ℕ) → r ≡ asks.Question q end → listed_by q ≤ length beside
+-- a question
+abbrev pub AsksGive : Reader → Reader → Option Question → Type 0
+AsksGive before after r = Takes query_of (next_as query (rest_of before)) before after r
 
 -- what questions are asked of: an accepted sheet with its own tables, and work of its exact length
 pub record Stands (t : Lent) (work : List ℕ) : Type 0 where
@@ -64,10 +41,14 @@ pub record Stands (t : Lent) (work : List ℕ) : Type 0 where
   pub tables : t ≡ own t.parents
   pub room : length work ≡ work_cells (length t.parents)
 
--- a route's answer to an accepted pair: the carrier, and the branches towards x and y
-pub record Found (s : List ℕ) (x y carrier left right : ℕ) : Type 0 where
+-- a route's answer to a pair, as the definitions have it
+abbrev pub answer_of : PairAnswer → Answer
+answer_of a = record { carrier = a.carrier; left = a.left; right = a.right }
+
+-- it is that of an accepted pair: the carrier, and the branches towards x and y
+pub record Found (s : List ℕ) (x y : ℕ) (a : PairAnswer) : Type 0 where
   pub yes : verdict (question_tests s 0 (x ∷ y ∷ [])) ≡ accepted
-  pub is : record { carrier = carrier; left = left; right = right } ≡ pair_answer s x y
+  pub is : answer_of a ≡ pair_answer s x y
 
 -- ---- buffers
 

@@ -8,9 +8,9 @@ mod print;
 mod sheet;
 mod size;
 
-ghost use Rattle.std.specs.Prelude.{◌≤◌, ◌<◌, ◌++◌, length, drop};
-ghost use Rattle.text.specs.Lines.{lines};
+ghost use Rattle.std.specs.Prelude.{◌≤◌, ◌<◌, ◌++◌, length};
 ghost use Rattle.text.specs.Puts.{Room, Puts};
+ghost use Rattle.lines.specs.Gives.{rest_of};
 ghost use Rattle.lines.specs.Machine.{most};
 ghost use Rattle.console.specs.Print.{machine_line};
 ghost use Rattle.console.specs.Run.{sheet as Run·sheet, parts, sheet_run, output};
@@ -18,27 +18,26 @@ ghost use Rattle.console.specs.Gives.{Sized};
 ghost use Rattle.console.specs.Whole.{room as Whole·room, RunGives};
 ghost use Rattle.tree.specs.Tables.{lent_by};
 
-use crate::sheet::Entries;
-use lines::Start;
+use lines::Reader;
 pub use size::{MOST_BYTES, MOST_ROOM, room};
-use tree::{Outcome, Refusal};
+use tree::{Lent, Refusal};
 
-// What a run gives: how many bytes at the start of the buffer are the text; or how many bytes the buffer must have, which is then as it was.
-#[derive(Clone, Copy)]
-pub enum Written {
-    Text(usize),
-    Short(usize),
+// A buffer that is too short: how many bytes it must have.
+#[derive(Clone, Copy, Debug, PartialEq, Eq)]
+pub struct Short {
+    pub needed: usize,
 }
 
-// Runs the program on the input, and puts what it prints at the start of `out`, which must have `room(input.len())` bytes.
-pub fn run(input: &[u8], out: &mut [u8]) -> Written
+// Runs the program on the input, and puts what it prints at the start of `out`, which must have `room(input.len())` bytes: how many bytes are the text. A
+// shorter buffer is left as it was.
+pub fn run(input: &[u8], out: &mut [u8]) -> Result<usize, Short>
     ensures { RunGives input.now out.old result out.new }
 {
     let needed = size::room(input.len());
     if out.len() < needed {
-        return Written::Short(needed);
+        return Err(Short { needed });
     }
-    Written::Text(text(input, out))
+    Ok(text(input, out))
 }
 
 // The same, where there is room.
@@ -50,31 +49,30 @@ fn text(input: &[u8], out: &mut [u8]) -> usize
         return print::refusal(out, 0, Refusal::MalformedLine(1));
     }
     match lines::machine_line(input) {
-        Start::Parts(n, at) => machine(input, at, n, out),
-        Start::Refused(why) => print::refusal(out, 0, why),
+        Ok((n, reader)) => machine(reader, n, out),
+        Err(why) => print::refusal(out, 0, why),
     }
 }
 
-// A machine of n parts, whose count has passed, from the position after its line on.
-fn machine(input: &[u8], at: usize, n: usize, out: &mut [u8]) -> usize
-    requires n_nonzero { (0 < n) × (n ≤ most) × (at ≤ length input.now) }
-    requires room { Room out.old 0 (machine_line n ++ sheet_run (parts n 0 (lines (drop at input.now)))) }
-    ensures { Puts out.old 0 (machine_line n ++ sheet_run (parts n 0 (lines (drop at input.now)))) out.new result }
+// A machine of n parts, whose count has passed, from the line after its line on.
+fn machine(reader: Reader, n: usize, out: &mut [u8]) -> usize
+    requires n_nonzero { (0 < n) × (n ≤ most) }
+    requires room { Room out.old 0 (machine_line n ++ sheet_run (parts n 0 (rest_of reader))) }
+    ensures { Puts out.old 0 (machine_line n ++ sheet_run (parts n 0 (rest_of reader.entry))) out.new result }
 {
     let put = print::machine(out, 0, n);
-    let mut parents = size::parents();
-    let mut label = size::label();
-    let mut tour = size::tour();
-    let mut lift = size::lift();
-    let mut order = size::order();
-    let mut work = size::work();
+    let mut parents = [0; size::PARTS];
+    let mut label = [0; size::LABEL];
+    let mut tour = [0; size::TOUR];
+    let mut lift = [0; size::LIFT];
+    let mut order = [0; size::PARTS];
+    let mut work = [0; size::WORK];
     let label_cells = 6 * n;
     let tour_cells = size::tour_cells(n);
     let lift_cells = size::lift_cells(n);
     let work_cells = 4 * n;
     read_sheet(
-        input,
-        at,
+        reader,
         &mut parents[..n],
         &mut label[..label_cells],
         &mut tour[..tour_cells],
@@ -88,8 +86,7 @@ fn machine(input: &[u8], at: usize, n: usize, out: &mut [u8]) -> usize
 
 // Reads the part lines, and goes on with the sheet.
 fn read_sheet(
-    input: &[u8],
-    at: usize,
+    mut reader: Reader,
     parents: &mut [u16],
     label: &mut [u16],
     tour: &mut [u16],
@@ -99,23 +96,19 @@ fn read_sheet(
     out: &mut [u8],
     put: usize,
 ) -> usize
-    requires at_in_bounds { at ≤ length input.now }
     requires sized { Sized (lent_by parents.old label.old tour.old lift.old order.old) work.old }
-    requires room { Room out.old put (sheet_run (parts (length parents.old) 0 (lines (drop at input.now)))) }
-    ensures { Puts out.old put (sheet_run (parts (length parents.old) 0 (lines (drop at input.now)))) out.new result }
+    requires room { Room out.old put (sheet_run (parts (length parents.old) 0 (rest_of reader))) }
+    ensures { Puts out.old put (sheet_run (parts (length parents.old) 0 (rest_of reader.entry))) out.new result }
 {
-    match sheet::part_lines(input, at, parents) {
-        Entries::Whole(end) => test_sheet(
-            input, end, parents, label, tour, lift, order, work, out, put,
-        ),
-        Entries::Illegible(number) => print::refusal(out, put, Refusal::MalformedLine(number)),
+    match sheet::part_lines(&mut reader, parents) {
+        Ok(()) => test_sheet(reader, parents, label, tour, lift, order, work, out, put),
+        Err(number) => print::refusal(out, put, Refusal::MalformedLine(number)),
     }
 }
 
 // Tests a sheet and builds its tables, and answers the questions from a position on.
 fn test_sheet(
-    input: &[u8],
-    at: usize,
+    reader: Reader,
     parents: &[u16],
     label: &mut [u16],
     tour: &mut [u16],
@@ -125,26 +118,19 @@ fn test_sheet(
     out: &mut [u8],
     put: usize,
 ) -> usize
-    requires at_in_bounds { at ≤ length input.now }
     requires sized { Sized (lent_by parents.now label.old tour.old lift.old order.old) work.old }
-    requires room { Room out.old put (sheet_run (Run·sheet parents.now (lines (drop at input.now)))) }
-    ensures { Puts out.old put (sheet_run (Run·sheet parents.now (lines (drop at input.now)))) out.new result }
+    requires room { Room out.old put (sheet_run (Run·sheet parents.now (rest_of reader))) }
+    ensures { Puts out.old put (sheet_run (Run·sheet parents.now (rest_of reader.entry))) out.new result }
 {
-    let r = tables::build(parents, label, tour, lift, order, work);
-    let Outcome::Accepted = r else {
-        return print::outcome(out, put, r);
-    };
-    ask::questions(
-        input,
-        at,
-        parents.len() + 2,
+    if let Err(why) = tables::build(parents, label, tour, lift, order, work) {
+        return print::refusal(out, put, why);
+    }
+    let lent = Lent {
         parents,
         label,
         tour,
         lift,
         order,
-        work,
-        out,
-        put,
-    )
+    };
+    ask::questions(reader, parents.len() + 2, lent, work, out, put)
 }

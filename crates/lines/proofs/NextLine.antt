@@ -1,49 +1,32 @@
--- How the line at a position is taken: its end is known, and what its bytes say.
+-- How the line at a reader's position is taken: its end is known, and what its bytes say.
 -- Assumes nothing.
-use Prim.Native.Nat.{ℕ, suc, ◌+◌, ◌-◌}
+use Prim.Native.Nat.{ℕ, ◌+◌, ◌-◌}
 use native.Mathlib.Numerals.{add-one}
 use native.Mathlib.Omega.{arith}
 use mathlib.Core.Path.{◌≡◌, refl}
-use mathlib.Core.Logic.{◌≢◌}
-use mathlib.Core.List.{List}
-use mathlib.Core.Option.{some, bind}
-use lib.ListN.{length, take, drop}
-use Rattle.text.specs.Lines.{line, lines}
-use Rattle.text.specs.Found.{LineEnd}
+use mathlib.Core.Option.{none, some, bind}
+use lib.ListN.{take, drop}
+use Rattle.std.specs.Prelude.{Some, None}
+use Rattle.text.specs.Lines.{tail}
+use Rattle.text.specs.Found.{EndsAt}
 use Rattle.lines.specs.Read.{read, next}
-use Rattle.lines.specs.Gives.{reading_of, next_of, NextGives, ReadGives}
-use Rattle.lines.specs.declared.form.Reading.{Reading}
-use Rattle.lines.specs.declared.form.Reading.TheVariants.{Legible, Illegible}
+use Rattle.lines.specs.Gives.{form_of, rest_of, NextGives}
+use Rattle.lines.specs.declared.form.Line.{Line}
+use Rattle.lines.specs.declared.reader.Reader.{Reader}
 
--- an end within the input is an LF
-by-lf : {input : List ℕ} {at end : ℕ} → LineEnd input at end → end ≢ length input
-    → lines (drop at input) ≡ line (take (end - at) (drop at input)) (lines (drop (suc end) input))
-by-lf e h = e.ended (omega arith)
-
--- what the line's bytes say decides what is taken
-by-reading : (input beside : List ℕ) (end : ℕ) (r : Reading) → next_of input beside end r ≡ bind (reading_of beside r) (λ f. some (f, lines (drop end input)))
-unfolding bind
-by-reading input beside end (Legible l) = refl
-by-reading input beside end Illegible = refl
-
-module _ {input : List ℕ} {at : ℕ} {beside : List ℕ} {end : ℕ} (e : LineEnd input at end) where
+module _ {before after : Reader} (same : after.input ≡ before.input) where
   -- no LF ends it
-  pub takes-tail : end ≡ length input → NextGives input at beside (record { line = Illegible; end = end })
+  pub takes-tail : rest_of before ≡ tail (drop before.at before.input.now) → NextGives before after None
   unfolding next
-  takes-tail h = record {
-    is = rw (e.unended h) refl;
-    further = λ l q. let z : ◌≡◌ {A = ℕ} 0 1 = cc in absurd (omega arith);
-    ends = omega arith;
-    within = λ l q. let z : ◌≡◌ {A = ℕ} 0 1 = cc in absurd (omega arith);
-  }
+  takes-tail e = record { is = rw e refl; further = tt; same = same }
 
-  -- an LF does
-  pub takes-line : {r : Reading} → end ≢ length input → ReadGives (read (take (end - at) (drop at input))) beside r
-      → NextGives input at beside (record { line = r; end = end + 1 })
-  unfolding next
-  takes-line {r} h g = record {
-    is = rw (by-reading input beside (end + 1) r, by-lf e h, g.is, add-one) refl;
-    further = λ l q. omega arith;
-    ends = omega arith;
-    within = λ l q. g.within l q;
-  }
+  module _ {end : ℕ} (e : EndsAt before.input.now before.at end) where
+    -- an LF does, and the bytes before it are illegible
+    pub takes_illegible : none ≡ read (take (end - before.at) (drop before.at before.input.now)) → NextGives before after None
+    unfolding next bind
+    takes_illegible g = record { is = rw (e.ended, ← g) refl; further = tt; same = same }
+
+    -- they are a line's
+    pub takes-line : {l : Line} → after.at ≡ end + 1 → some (form_of l) ≡ read (take (end - before.at) (drop before.at before.input.now)) → NextGives before after (Some l)
+    unfolding next bind
+    takes-line there g = record { is = rw (e.ended, ← g, there, same, add-one) refl; further = omega (arith, e.begun); same = same }

@@ -2,20 +2,24 @@
 -- Assumes nothing.
 use Prim.Native.Nat.{ℕ, ◌≤◌, ◌<◌}
 use native.Mathlib.Omega.{arith}
-use mathlib.Core.Path.{◌≡◌, refl, sym, ◌∙◌}
-use mathlib.Core.Logic.{◌≢◌}
+use mathlib.Core.Path.{◌≡◌, refl, sym}
 use mathlib.Core.List.{List}
 use mathlib.Core.Option.{Option, none, some, bind}
-use borrow.Author.Tests.{le-leb, lt-leb}
+use mathlib.Core.Bool.{Bool}
+use borrow.Author.Tests.{le-leb, lt-leb, eqb-true, eqb-false}
+use borrow.Table.Steps.{cases}
+use lib.Dec.{eqb}
 use lib.ListN.{length, drop, drop_of_length-le}
 use lib.Seq.{drop-cons}
+use Rattle.std.specs.Bool.{then_some}
+use Rattle.std.specs.Prelude as std
+use Rattle.std.specs.Prelude.{Some, None, MatchOption}
 use Rattle.text.specs.Fields.{whole, either}
+use Rattle.text.specs.Found.{found_as}
 use Rattle.lines.specs.Forms.{Form}
 use Rattle.lines.specs.Read.{machine_form, part_form, pair_form, many_form, longest, read}
-use Rattle.lines.specs.Gives.{form_of, listed_in, ReadGives}
+use Rattle.lines.specs.Gives.{reading_of}
 use Rattle.lines.specs.declared.form.Line.{Line}
-use Rattle.lines.specs.declared.form.Reading.{Reading}
-use Rattle.lines.specs.declared.form.Reading.TheVariants.{Legible, Illegible}
 
 module _ {A B : Type 0} {sought : Option A} (k : A → Option B) where
   -- a step that finds nothing ends it
@@ -28,46 +32,37 @@ module _ {A B : Type 0} {sought : Option A} (k : A → Option B) where
   unfolding bind
   goes_on e g = rw (sym e) g
 
-module _ (line : List ℕ) (end : ℕ) {A : Type 0} (a : A) where
-  -- some bytes are left
-  pub left_over : end ≤ length line → end ≢ length line → none ≡ whole (drop end line) a
-  unfolding whole
-  left_over h e = rw (drop-cons line end 0 (omega arith))
+-- no bytes are left, or some are
+pub read_whole : {A B : Type 0} (f : A → B) (line : List ℕ) (end : ℕ) (a : A) {b : Bool} → end ≤ length line → b ≡ eqb end (length line)
+    → found_as f (then_some b a) ≡ whole (drop end line) (f a)
+unfolding whole
+read_whole f line end a h e =
+    cases (eqb end (length line))
+    (λ t. let all : length line ≤ end = omega (arith, eqb-true end (length line) t) in rw (e, t, drop_of_length-le line all) refl)
+    (λ t. let more : end < length line = omega (arith, eqb-false end (length line) t) in rw (e, t, drop-cons line end 0 more) refl)
 
-  -- no bytes are left
-  pub read_whole : end ≡ length line → some a ≡ whole (drop end line) a
-  unfolding whole
-  read_whole e = let short : length line ≤ end = omega arith in rw (drop_of_length-le line short)
+-- the first of two readings that is one: the second is made where the first is none
+pub is_either : {form : Option Form} (other : Option Form) {P : Type 0} (a r : std.Option Line) → reading_of a ≡ form → MatchOption a P (λ l'. r ≡ Some l')
+    → (P → reading_of r ≡ other) → reading_of r ≡ either form other
+unfolding either
+is_either other None r e m second = rw (← e) (second m)
+is_either other (Some l) r e m second = rw (← e, m) refl
 
-module _ {form : Option Form} {beside : List ℕ} where
-  -- nothing was read
-  pub reads_nothing : none ≡ form → ReadGives form beside Illegible
-  reads_nothing e = record { is = e; within = λ l q. let z : ◌≡◌ {A = ℕ} 0 1 = cc in absurd (omega arith) }
+-- it is the first of the first two, or the last
+pub either_assoc : {A : Type 0} (a b c : Option A) → either (either a b) c ≡ either a (either b c)
+unfolding either
+either_assoc none b c = refl
+either_assoc (some x) b c = refl
 
-  -- a form was read
-  pub reads-form : {l : Line} → listed_in l ≤ length beside → some (form_of beside l) ≡ form → ReadGives form beside (Legible l)
-  reads-form {l} h e = record { is = e; within = λ m q. let same : l ≡ m = cc in rw same at h }
-
-module _ {form : Option Form} {beside : List ℕ} (other : Option Form) {p : Reading} where
-  -- the first of two readings is a form
-  pub is-first : {l : Line} → p ≡ Legible l → ReadGives form beside p → ReadGives (either form other) beside p
-  unfolding either
-  is-first {l} e f = let g : some (form_of beside l) ≡ form = rw e at f.is in record { is = f.is ∙ rw (sym g) refl; within = f.within }
-
-  -- it is not: the other one decides
-  pub is-other : {r : Reading} → p ≡ Illegible → ReadGives form beside p → ReadGives other beside r → ReadGives (either form other) beside r
-  unfolding either
-  is-other e f g = let nothing : none ≡ form = rw e at f.is in rw (sym nothing) g
-
-module _ (line : List ℕ) {beside : List ℕ} where
+module _ (line : List ℕ) where
   -- a line of too many bytes
-  pub reads-long : longest < length line → ReadGives (read line) beside Illegible
+  pub reads-long : longest < length line → reading_of None ≡ read line
   unfolding read
-  reads-long h = reads_nothing (rw (lt-leb _ _ h))
+  reads-long h = rw (lt-leb _ _ h) refl
 
   -- another line is tried as each form
-  pub reads_short : {r : Reading} → length line ≤ longest
-      → ReadGives (either (machine_form line) (either (part_form line) (either (pair_form line) (many_form line)))) beside r
-      → ReadGives (read line) beside r
+  pub reads_short : (r : std.Option Line) → length line ≤ longest
+      → reading_of r ≡ either (machine_form line) (either (part_form line) (either (pair_form line) (many_form line)))
+      → reading_of r ≡ read line
   unfolding read
-  reads_short h g = rw (le-leb _ _ h) g
+  reads_short r h g = rw (le-leb _ _ h) g

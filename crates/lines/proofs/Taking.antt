@@ -1,48 +1,37 @@
--- What a place takes of the next line, from what `reader::next_line` gives: the line as the place takes it, or nothing.
+-- What a place takes of the next line, from what the reader gives: the line as the place takes it, or nothing.
 -- Assumes nothing.
-use Prim.Native.Nat.{ℕ}
-use mathlib.Core.Path.{◌≡◌, refl, sym, ap, ◌∙◌}
-use mathlib.Core.List.{List}
-use mathlib.Core.Option.{Option, none, some, bind}
-use lib.ListN.{drop}
-use Rattle.text.specs.Lines.{Lines, lines}
+use Prim.Native.Nat.{◌≤◌, ◌<◌}
+use native.Mathlib.Omega.{arith}
+use lib.ListN.{length}
+use mathlib.Core.Path.{◌≡◌, refl, ap}
+use mathlib.Core.Option.{Option, bind}
+use Rattle.std.specs.Prelude as std
+use Rattle.std.specs.Prelude.{Some, None}
+use Rattle.text.specs.Lines.{Lines}
+use Rattle.text.specs.Found.{found_as}
 use Rattle.lines.specs.Forms.{Form}
-use Rattle.lines.specs.Read.{next, next_as}
-use Rattle.lines.specs.Gives.{form_of, next_of, NextGives}
+use Rattle.lines.specs.Read.{next_as}
+use Rattle.lines.specs.Gives.{form_of, rest_of, left_by, Takes, NextGives}
 use Rattle.lines.specs.declared.form.Line.{Line}
-use Rattle.lines.specs.declared.form.Reading.{Reading}
-use Rattle.lines.specs.declared.form.Reading.TheVariants.{Legible, Illegible}
-use Rattle.lines.specs.declared.reader.Next.{Next}
+use Rattle.lines.specs.declared.reader.Reader.{Reader}
 
--- a line that was read, as a place takes it
-unfoldable taken_as : {A : Type 0} → (Form → Option A) → Option (Form × Lines) → Option (A × Lines)
-taken_as take found = bind found (λ x. bind (take x.0) (λ a. some (a, x.1)))
-
--- the next line is read, and so taken
-next-taken : {A : Type 0} (take : Form → Option A) (ls : Lines) → next_as take ls ≡ taken_as take (next ls)
-unfolding taken_as next_as
-next-taken take ls = refl
-
-module _ {A : Type 0} (take : Form → Option A) {input : List ℕ} {at : ℕ} {beside : List ℕ} {r : Next} (g : NextGives input at beside r) where
-  -- what was read decides
-  by-reading : {read : Reading} → r.line ≡ read → taken_as take (next_of input beside r.end read) ≡ next_as take (lines (drop at input))
-  by-reading e =
-      ap (λ (x : Reading). taken_as take (next_of input beside r.end x)) (sym e)
-      ∙ ap (taken_as take) g.is
-      ∙ sym (next-taken take (lines (drop at input)))
-
-  -- a line was read that the place takes
-  pub takes : {l : Line} {a : A} → r.line ≡ Legible l → take (form_of beside l) ≡ some a
-      → some (a, lines (drop r.end input)) ≡ next_as take (lines (drop at input))
-  unfolding taken_as bind
-  takes e t = rw t at (by-reading e)
-
-  -- one was read that the place does not take
-  pub takes-other : {l : Line} → r.line ≡ Legible l → take (form_of beside l) ≡ none → none ≡ next_as take (lines (drop at input))
-  unfolding taken_as bind
-  takes-other e t = rw t at (by-reading e)
+module _ {A B : Type 0} (of : B → A) (take : Form → Option A) {before after : Reader} where
+  -- a line was read: the place takes it, or not
+  pub takes : {l : Line} → NextGives before after (Some l) → (r : std.Option B) → found_as of r ≡ take (form_of l)
+      → Takes of (next_as take (rest_of before)) before after r
+  unfolding next_as bind
+  takes g None t = record { is = rw (← g.is, ← t) refl; further = tt; same = g.same }
+  takes g (Some b) t = record { is = rw (← g.is, ← t) refl; further = g.further; same = g.same }
 
   -- none was read
-  pub takes_none : r.line ≡ Illegible → none ≡ next_as take (lines (drop at input))
-  unfolding taken_as bind
-  takes_none e = by-reading e
+  pub takes_none : NextGives before after None → Takes of (next_as take (rest_of before)) before after None
+  unfolding next_as bind
+  takes_none g = record { is = rw (← g.is) refl; further = tt; same = g.same }
+
+-- what was taken is behind the reader
+pub nearer : {A B : Type 0} {of : B → A} {there : Option (A × Lines)} {before after : Reader} {b : B} → Takes of there before after (Some b)
+    → left_by after < left_by before
+nearer {before} {after} t =
+    let same : length after.input.now ≡ length before.input.now = ap (λ i. length i.now) t.same in
+    let inside : after.at ≤ length after.input.now = after.within in
+    omega (arith, t.further)

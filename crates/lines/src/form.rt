@@ -1,17 +1,18 @@
 // The forms of a line (document 01, "The program").
 
-ghost use Rattle.std.specs.Prelude.{ℕ, ◌≤◌, ◌≡◌, List, length};
+ghost use Rattle.std.specs.Prelude.{◌≤◌, ◌≡◌, length};
 ghost use Rattle.lines.specs.Forms.{most_listed};
-ghost use Rattle.lines.specs.Read.{machine_form, two_numbers, part_form, pair_form, many_form, read as Read·read};
-ghost use Rattle.lines.specs.Gives.{two_of, ListedGives, ReadGives};
+ghost use Rattle.text.specs.Found.{found_as};
+ghost use Rattle.lines.specs.Read.{machine_form, two_numbers, part_form, pair_form, many_form, read as Read·read, machine_count, entry, query};
+ghost use Rattle.lines.specs.Gives.{query_of, form_of, two_of, ListedGives, reading_of};
 
-use text::{Found, Number};
+use crate::list::Numbers;
 
-// A question: of a pair, its two numbers; of many, how many numbers stand beside it.
+// A question: of a pair, its two numbers; of many, all of them.
 #[derive(Clone, Copy)]
 pub enum Question {
     Pair(u16, u16),
-    Many(usize),
+    Many(Numbers),
 }
 
 // "A line is a machine, part, pair or many form": a machine's count, a part with its entry, a question.
@@ -22,148 +23,117 @@ pub enum Line {
     Asked(Question),
 }
 
-// What the bytes of a line say.
-#[derive(Clone, Copy)]
-pub enum Reading {
-    Legible(Line),
-    Illegible,
-}
+// What a place takes of a line that was read, or nothing.
+impl Line {
+    // The machine line's count.
+    #[tactic(auto, unfolding(crate::specs::Read::machine_count))]
+    pub fn machine_count(self) -> Option<u16>
+        ensures { found_as (λ n. n) result ≡ machine_count (form_of self) }
+    {
+        match self {
+            Line::Machine(n) => Some(n),
+            Line::Part(_, _) | Line::Asked(_) => None,
+        }
+    }
 
-// Two numbers that stand between words.
-#[derive(Clone, Copy)]
-pub(crate) enum Two {
-    Numbers(u16, u16),
-    Illegible,
-}
+    // The entry of part v.
+    #[tactic(auto, unfolding(crate::specs::Read::entry))]
+    pub fn entry(self, v: usize) -> Option<u16>
+        ensures { found_as (λ p. p) result ≡ entry v (form_of self) }
+    {
+        match self {
+            Line::Part(w, p) => (w as usize == v).then_some(p),
+            Line::Machine(_) | Line::Asked(_) => None,
+        }
+    }
 
-// The numbers of a many line: how many, and where they end.
-#[derive(Clone, Copy)]
-pub(crate) enum Numbers {
-    Listed(usize, usize),
-    Illegible,
+    // A question.
+    #[tactic(auto, unfolding(crate::specs::Read::query))]
+    pub fn question(self) -> Option<Question>
+        ensures { found_as query_of result ≡ query (form_of self) }
+    {
+        match self {
+            Line::Asked(q) => Some(q),
+            Line::Machine(_) | Line::Part(_, _) => None,
+        }
+    }
 }
 
 // The most bytes of a line, before its LF.
 const LONGEST: usize = 200;
 
-// The most numbers of a many line.
-pub const MOST_LISTED: usize = 32;
-
-// Reads the bytes of a line. The numbers of a many line go to the start of `beside`.
-pub(crate) fn read(line: &[u8], beside: &mut [u16]) -> Reading
-    requires { most_listed ≤ length beside.old }
-    ensures { ReadGives (Read·read line.now) beside.new result }
+// Reads the bytes of a line.
+pub(crate) fn read(line: &[u8]) -> Option<Line>
+    ensures { reading_of result ≡ Read·read line.now }
 {
     if LONGEST < line.len() {
-        return Reading::Illegible;
+        return None;
     }
-    let r = machine(line);
-    let Reading::Illegible = r else {
-        return r;
-    };
-    let r = part(line);
-    let Reading::Illegible = r else {
-        return r;
-    };
-    let r = pair(line);
-    let Reading::Illegible = r else {
-        return r;
-    };
-    many(line, beside)
+    machine(line)
+        .or_else(|| part(line))
+        .or_else(|| pair(line))
+        .or_else(|| many(line))
 }
 
 // The machine form.
-fn machine(line: &[u8]) -> Reading
-    ensures { (beside : List ℕ) → ReadGives (machine_form line.now) beside result }
+fn machine(line: &[u8]) -> Option<Line>
+    ensures { reading_of result ≡ machine_form line.now }
 {
-    let Found::At(at) = text::find_word(line, 0, b"(machine ") else {
-        return Reading::Illegible;
-    };
-    let Number::Value(n, end) = text::find_number_then(line, at, b")") else {
-        return Reading::Illegible;
-    };
-    if end != line.len() {
-        return Reading::Illegible;
-    }
-    Reading::Legible(Line::Machine(n))
+    let at = text::find_word(line, 0, b"(machine ")?;
+    let (n, end) = text::find_number_then(line, at, b")")?;
+    (end == line.len()).then_some(Line::Machine(n))
 }
 
 // Reads two numbers between three words, which are all of the line.
-fn two_numbers(line: &[u8], first: &[u8], middle: &[u8], last: &[u8]) -> Two
+fn two_numbers(line: &[u8], first: &[u8], middle: &[u8], last: &[u8]) -> Option<(u16, u16)>
     ensures { two_of result ≡ two_numbers first.now middle.now last.now line.now }
 {
-    let Found::At(at) = text::find_word(line, 0, first) else {
-        return Two::Illegible;
-    };
-    let Number::Value(x, mid) = text::find_number_then(line, at, middle) else {
-        return Two::Illegible;
-    };
-    let Number::Value(y, end) = text::find_number_then(line, mid, last) else {
-        return Two::Illegible;
-    };
-    if end != line.len() {
-        return Two::Illegible;
-    }
-    Two::Numbers(x, y)
+    let at = text::find_word(line, 0, first)?;
+    let (x, mid) = text::find_number_then(line, at, middle)?;
+    let (y, end) = text::find_number_then(line, mid, last)?;
+    (end == line.len()).then_some((x, y))
 }
 
 // The part form.
-fn part(line: &[u8]) -> Reading
-    ensures { (beside : List ℕ) → ReadGives (part_form line.now) beside result }
+fn part(line: &[u8]) -> Option<Line>
+    ensures { reading_of result ≡ part_form line.now }
 {
-    let Two::Numbers(v, p) = two_numbers(line, b"(part ", b" (in ", b"))") else {
-        return Reading::Illegible;
-    };
-    Reading::Legible(Line::Part(v, p))
+    let (v, p) = two_numbers(line, b"(part ", b" (in ", b"))")?;
+    Some(Line::Part(v, p))
 }
 
 // The pair form.
-fn pair(line: &[u8]) -> Reading
-    ensures { (beside : List ℕ) → ReadGives (pair_form line.now) beside result }
+fn pair(line: &[u8]) -> Option<Line>
+    ensures { reading_of result ≡ pair_form line.now }
 {
-    let Two::Numbers(x, y) = two_numbers(line, b"(pair ", b" ", b")") else {
-        return Reading::Illegible;
-    };
-    Reading::Legible(Line::Asked(Question::Pair(x, y)))
+    let (x, y) = two_numbers(line, b"(pair ", b" ", b")")?;
+    Some(Line::Asked(Question::Pair(x, y)))
 }
 
-// The many form. Its numbers go to the start of `beside`.
-fn many(line: &[u8], beside: &mut [u16]) -> Reading
-    requires { most_listed ≤ length beside.old }
-    ensures { ReadGives (many_form line.now) beside.new result }
+// The many form.
+fn many(line: &[u8]) -> Option<Line>
+    ensures { reading_of result ≡ many_form line.now }
 {
-    let Found::At(at) = text::find_word(line, 0, b"(many") else {
-        return Reading::Illegible;
-    };
-    let Numbers::Listed(count, mid) = listed(line, at, beside) else {
-        return Reading::Illegible;
-    };
-    let Found::At(end) = text::find_word(line, mid, b")") else {
-        return Reading::Illegible;
-    };
-    if end != line.len() {
-        return Reading::Illegible;
-    }
-    Reading::Legible(Line::Asked(Question::Many(count)))
+    let at = text::find_word(line, 0, b"(many")?;
+    let (numbers, mid) = listed(line, at)?;
+    let end = text::find_word(line, mid, b")")?;
+    (end == line.len()).then_some(Line::Asked(Question::Many(numbers)))
 }
 
-// The numbers from a place on, each behind a space.
-fn listed(line: &[u8], at: usize, beside: &mut [u16]) -> Numbers
-    requires { (at ≤ length line.now) × (most_listed ≤ length beside.old) }
-    ensures { ListedGives line.now at most_listed beside.new result }
+// The numbers from a place on, each behind a space, and where they end.
+fn listed(line: &[u8], at: usize) -> Option<(Numbers, usize)>
+    requires { at ≤ length line.now }
+    ensures { ListedGives line.now at most_listed result }
 {
+    let mut numbers = Numbers::new();
     let mut i = at;
-    let mut count = 0;
-    while count < MOST_LISTED {
-        let Found::At(start) = text::find_word(line, i, b" ") else {
-            return Numbers::Listed(count, i);
+    while !numbers.is_full() {
+        let Some(start) = text::find_word(line, i, b" ") else {
+            return Some((numbers, i));
         };
-        let Number::Value(x, end) = text::find_number(line, start) else {
-            return Numbers::Illegible;
-        };
-        beside[count] = x;
-        count += 1;
+        let (x, end) = text::find_number(line, start)?;
+        numbers.push(x);
         i = end;
     }
-    Numbers::Listed(count, i)
+    Some((numbers, i))
 }

@@ -1,47 +1,40 @@
 // The machine line: the first line of an input, with the count of the machine's parts.
 
-ghost use Rattle.lines.specs.Gives.{AdmitGives, StartGives};
+ghost use Rattle.lines.specs.Read.{machine_count, next_as};
+ghost use Rattle.lines.specs.Gives.{rest_of, Takes, AdmitGives, StartGives};
 
-use crate::form::{Line, Reading};
-use crate::{form, reader};
+use crate::reader::Reader;
 use tree::Refusal;
 
 // The most parts that a program takes.
 const MOST: u16 = 512;
 
-// What the machine line gives: how many parts, and the position after it; or the refusal that ends the run.
-#[derive(Clone, Copy)]
-pub enum Start {
-    Parts(usize, usize),
-    Refused(Refusal),
-}
-
-// Reads the machine line.
-pub fn machine_line(input: &[u8]) -> Start
+// Reads the machine line: how many parts, and the reader of the lines after it; or the refusal that ends the run.
+pub fn machine_line(input: &[u8]) -> Result<(usize, Reader<'_>), Refusal>
     ensures { StartGives input.now result }
 {
-    let mut beside = [0u16; form::MOST_LISTED];
-    let next = reader::next_line(input, 0, &mut beside);
-    let reading = next.line;
-    let Reading::Legible(line) = reading else {
-        return Start::Refused(Refusal::MalformedLine(1));
-    };
-    match line {
-        Line::Machine(n) => admit(n, next.end),
-        Line::Part(_, _) => Start::Refused(Refusal::MalformedLine(1)),
-        Line::Asked(_) => Start::Refused(Refusal::MalformedLine(1)),
-    }
+    let mut reader = Reader::new(input);
+    let n = count(&mut reader).ok_or(Refusal::MalformedLine(1))?;
+    let parts = admit(n)?;
+    Ok((parts, reader))
 }
 
-// Tests 1 and 2 of a machine's count; `end` is the position after its line.
-fn admit(n: u16, end: usize) -> Start
-    ensures { AdmitGives n end result }
+// Takes a machine line.
+fn count(reader: &mut Reader) -> Option<u16>
+    ensures { Takes (λ n. n) (next_as machine_count (rest_of reader.old)) reader.old reader.new result }
+{
+    reader.next()?.machine_count()
+}
+
+// Tests 1 and 2 of a machine's count.
+fn admit(n: u16) -> Result<usize, Refusal>
+    ensures { AdmitGives n result }
 {
     if n == 0 {
-        return Start::Refused(Refusal::Empty);
+        return Err(Refusal::Empty);
     }
     if MOST < n {
-        return Start::Refused(Refusal::TooLarge);
+        return Err(Refusal::TooLarge);
     }
-    Start::Parts(n as usize, end)
+    Ok(n as usize)
 }

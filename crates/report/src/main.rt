@@ -3,12 +3,11 @@
 
 #![tactic(auto)]
 
-ghost use Rattle.std.specs.Prelude.{◌+◌, ◌≤◌, ◌≡◌, length, take};
+ghost use Rattle.std.specs.Prelude.{◌≤◌, ◌≡◌, length, take};
 ghost use Rattle.io.specs.Counts.{IsPrefixLen};
-ghost use Rattle.console.specs.Run.{most_bytes, output};
+ghost use Rattle.console.specs.Run.{output};
 ghost use Rattle.console.specs.Whole.{most_room};
 
-use console::Written;
 use std::io::{Read, Stdin};
 
 // The numbers of standard output and standard error.
@@ -18,20 +17,6 @@ const STDERR: i32 = 2;
 
 // The most bytes of an input, and one more, by which an input above the limit is known.
 const INPUT: usize = console::MOST_BYTES + 1;
-
-// Room for an input.
-fn input_buffer() -> [u8; INPUT]
-    ensures { most_bytes + 1 ≡ length result }
-{
-    [0; INPUT]
-}
-
-// Bytes that hold whatever is printed.
-fn output_buffer() -> [u8; console::MOST_ROOM]
-    ensures { most_room ≡ length result }
-{
-    [0; console::MOST_ROOM]
-}
 
 // Reads standard input until it ends or the buffer is full, and answers how many bytes there are. Where a read fails it answers that there are none, which is
 // printed as an illegible line 1: an input that was read in part is not answered.
@@ -57,16 +42,13 @@ fn text(input: &[u8], out: &mut [u8]) -> usize
     ensures prefix_len { IsPrefixLen result out.new }
     ensures out_after { take result out.new ≡ output input.now }
 {
-    match console::run(input, out) {
-        Written::Text(count) => count,
-        Written::Short(_) => 0,
-    }
+    console::run(input, out).unwrap()
 }
 
 fn main(rt: HostRuntime) {
-    let mut input = input_buffer();
+    let mut input = [0; INPUT];
     let n = read_input(&mut rt.stdin(), &mut input);
-    let mut out = output_buffer();
+    let mut out = [0; console::MOST_ROOM];
     let count = text(&input[..n], &mut out);
     if !io::write_all(STDOUT, &out[..count]) {
         io::write_all(

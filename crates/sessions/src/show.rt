@@ -1,6 +1,5 @@
 // A run, and what is printed of it. Before a run its buffer holds sevens.
 
-use console::Written;
 use std::io;
 use std::io::{Print, Stdout, Write};
 
@@ -33,8 +32,8 @@ pub fn title(out: Stdout, name: &[u8]) -> io::Result<()> {
 // Runs the program in a buffer, and prints what it wrote.
 pub fn run(out: Stdout, input: &[u8], buffer: &mut [u8]) -> io::Result<()> {
     match console::run(input, buffer) {
-        Written::Text(n) => text(out, buffer, n),
-        Written::Short(n) => short(out, buffer, n),
+        Ok(n) => text(out, buffer, n),
+        Err(lack) => short(out, buffer, lack.needed),
     }
 }
 

@@ -2,7 +2,6 @@
 
 use crate::show;
 use crate::show::{BEFORE, SHORT};
-use console::Written;
 use std::io;
 use std::io::{Print, Stdout};
 
@@ -37,8 +36,8 @@ pub fn summary(out: Stdout, name: &[u8], input: &[u8]) -> io::Result<()> {
 // Runs an input in a buffer, and prints a summary.
 fn run(out: Stdout, input: &[u8], buffer: &mut [u8]) -> io::Result<()> {
     match console::run(input, buffer) {
-        Written::Text(n) => sum_of(out, input.len(), buffer, n),
-        Written::Short(n) => show::short(out, buffer, n),
+        Ok(n) => sum_of(out, input.len(), buffer, n),
+        Err(lack) => show::short(out, buffer, lack.needed),
     }
 }
 

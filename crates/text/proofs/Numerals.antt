@@ -48,8 +48,12 @@ digit-tested x e =
     (λ a. absurd (false≢true (rw a at e)))
 
 -- and passes there
-digit-is : (x : ℕ) → Digit x → is_digit x ≡ true
+pub digit-is : (x : ℕ) → Digit x → is_digit x ≡ true
 digit-is x d = rw (le-leb 48 x d.low, le-leb x 57 d.high)
+
+-- and nowhere else
+pub no-digit : (x : ℕ) → (Digit x → ⊥) → is_digit x ≡ false
+no-digit x f = cases (is_digit x) (λ t. absurd (f (digit-tested x t))) (λ t. t)
 
 -- no digit stands there
 abbrev pub NoDigit : List ℕ → Type 0

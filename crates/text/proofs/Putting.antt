@@ -6,8 +6,10 @@ use native.Mathlib.Numerals.{add-one}
 use native.Mathlib.Omega.{arith}
 use mathlib.Core.Path.{◌≡◌, refl, sym, ap, ◌∙◌}
 use mathlib.Core.List.{List, [], ◌∷◌, ◌++◌, append_assoc}
-use lib.ListN.{length, take, drop, set, get_or, length-append, take-append-drop}
-use lib.Seq.{length-take-le, take-length, take-suc, drop-drop, set_split, paste, length-paste, take-paste, drop-paste}
+use lib.ListN.{length, take, drop, set, length-append, take-append-drop}
+use lib.Seq.{take-length, drop-drop, set_split, paste, length-paste, take-paste, drop-paste}
+use borrow.Rule.Slice.PartMut.{put_mid}
+use Rattle.std.proofs.lemmas.Slice.{put_mid-paste}
 use Rattle.text.specs.Puts.{over, Room, Puts}
 
 -- it is the library's copy of a list's first elements, here of all of them
@@ -73,13 +75,6 @@ puts_then {l} {m} {a} {at} {n} {k} x y r p q = record {
   place = omega (arith, length-append x y, p.place, q.place);
 }
 
--- one byte more of a word
-pub puts-more : {l m : List ℕ} {at : ℕ} (w : List ℕ) (i : ℕ) → Room l at w → i < length w → Puts l at (take i w) m (at + i)
-    → Puts l at (take (i + 1) w) (set m (at + i) (get_or w i 0)) (at + (i + 1))
-puts-more {l} {m} {at} w i r h p =
-    let long : length (take i w) ≡ i = length-take-le i w (omega arith) in
-    let b = get_or w i 0 in
-    let room : Room l at (take i w ++ (b ∷ [])) = omega (arith, length-append (take i w) (b ∷ [])) in
-    let next : at + (i + 1) ≡ (at + i) + 1 = omega arith in
-    let same : length m ≡ length l = puts-length (room-first _ (take i w) _ room) p in
-    rw (add-one i, take-suc w i 0 h, ← add-one i, next) (puts_then _ _ room p (puts_one b (omega arith)))
+-- some bytes are copied
+pub puts-copied : {l x m : List ℕ} {at k : ℕ} → length x ≡ k → m ≡ x → Puts l at x (put_mid at k l m) (at + length x)
+puts-copied {l} {x} {m} {at} {k} e same = record { written = put_mid-paste at k l m x (length x) same e refl ∙ sym (over-paste l at x); place = refl }

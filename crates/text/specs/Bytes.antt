@@ -1,6 +1,6 @@
 -- Text as bytes: words as they are printed, and numbers in decimal digits.
 -- Assumes nothing.
-use Rattle.std.specs.Prelude.{ℕ, zero, suc, ◌+◌, ◌/◌, ◌%◌, cond, List, [], ◌∷◌, ◌++◌, ltb}
+use Rattle.std.specs.Prelude.{ℕ, zero, suc, ◌+◌, ◌/◌, ◌%◌, Bool, cond, ◌==◌, List, [], ◌∷◌, ◌++◌, ltb}
 use Prim.Native.Char.{code}
 use Prim.Native.String as text
 
@@ -12,6 +12,9 @@ bytes (text.◌∷◌ c s) = code c ∷ bytes s
 -- the byte that ends a line, LF
 abbrev pub lf : ℕ
 lf = 10
+
+abbrev pub is_lf : ℕ → Bool
+is_lf x = x == lf
 
 -- the byte of the digit 0
 abbrev pub zero_digit : ℕ

@@ -6,5 +6,5 @@
 mod read;
 mod write;
 
-pub use read::{Found, Number, find_number, find_number_then, find_word, line_end};
+pub use read::{find_number, find_number_then, find_word, line_end};
 pub use write::{put_decimal, put_word, put_word_number};

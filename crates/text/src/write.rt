@@ -8,12 +8,9 @@ pub fn put_word(out: &mut [u8], at: usize, word: &[u8]) -> usize
     requires { Room out.old at word.now }
     ensures { Puts out.old at word.now out.new result }
 {
-    let mut i = 0;
-    while i < word.len() {
-        out[at + i] = word[i];
-        i += 1;
-    }
-    at + i
+    let end = at + word.len();
+    out[at..end].copy_from_slice(word);
+    end
 }
 
 // Writes a number in decimal: its digits but the last by the same call, and the last behind them.
@@ -21,10 +18,11 @@ pub fn put_decimal(out: &mut [u8], at: usize, n: usize) -> usize
     requires { Room out.old at (decimal n) }
     ensures { Puts out.old at (decimal n) out.new result }
 {
-    let mut end = at;
-    if 9 < n {
-        end = put_decimal(out, at, n / 10);
-    }
+    let end = if 9 < n {
+        put_decimal(out, at, n / 10)
+    } else {
+        at
+    };
     out[end] = b'0' + (n % 10) as u8;
     end + 1
 }

@@ -13,15 +13,15 @@ returns-then-input-gt-MOST_BYTES c = rw (output-above _ c.if-input-gt-MOST_BYTES
 -- within it
 pub machine-requires-clause-room : goal.machine-requires-clause-room
 machine-requires-clause-room c =
-    output-room _ _ c.requires (output-within c.if-input-gt-MOST_BYTES.false c.machine_line.ensures c.in-Parts.is)
+    output-room _ _ c.requires (output-within c.if-input-gt-MOST_BYTES.false c.in-Ok.ensures)
 
-pub refusal-requires-in-Refused : goal.refusal-requires-in-Refused
-refusal-requires-in-Refused c =
-    output-room _ _ c.requires (output-within c.if-input-gt-MOST_BYTES.false c.machine_line.ensures c.in-Refused.is)
+pub refusal-requires-in-Err : goal.refusal-requires-in-Err
+refusal-requires-in-Err c =
+    output-room _ _ c.requires (output-within c.if-input-gt-MOST_BYTES.false c.in-Err.ensures)
 
-pub returns-in-Parts : goal.returns-in-Parts
-returns-in-Parts c = rw (output-within c.if-input-gt-MOST_BYTES.false c.machine_line.ensures c.in-Parts.is) at c.machine.ensures
+pub returns-in-Ok : goal.returns-in-Ok
+returns-in-Ok c = rw (output-within c.if-input-gt-MOST_BYTES.false c.in-Ok.ensures) at c.machine.ensures
 
-pub returns-in-Refused : goal.returns-in-Refused
-returns-in-Refused c =
-    rw (output-within c.if-input-gt-MOST_BYTES.false c.machine_line.ensures c.in-Refused.is) at c.refusal-in-Refused.ensures
+pub returns-in-Err : goal.returns-in-Err
+returns-in-Err c =
+    rw (output-within c.if-input-gt-MOST_BYTES.false c.in-Err.ensures) at c.refusal-in-Err.ensures

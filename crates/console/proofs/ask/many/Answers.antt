@@ -5,15 +5,15 @@ use Rattle.console.proofs.Answering.{many-refused, many-answered}
 use Rattle.console.proofs.ask.many.Goals as goal
 
 -- where the list is refused, its refusal is printed
-pub outcome-requires : goal.outcome-requires
-outcome-requires c = rw (many-refused c.requires.stands c.list-r.ensures refl c.in_default.is) c.requires.room
+pub refusal-requires : goal.refusal-requires
+refusal-requires c = rw (many-refused c.requires.stands c.list-r.ensures refl c.in-Refused.is) c.requires.room
 
-pub returns-in_default : goal.returns-in_default
-returns-in_default c = rw (many-refused c.requires.stands c.list-r.ensures refl c.in_default.is) at c.outcome.ensures
+pub returns-in-Refused : goal.returns-in-Refused
+returns-in-Refused c = rw (many-refused c.requires.stands c.list-r.ensures refl c.in-Refused.is) at c.refusal.ensures
 
 -- where it is accepted, its line
 pub many-requires : goal.many-requires
-many-requires c = rw (many-answered c.requires.stands c.list-r.ensures refl c.in-Accepted.is) c.requires.room
+many-requires c = rw (many-answered c.requires.stands c.list-r.ensures refl c.in_default.is) c.requires.room
 
 pub returns : goal.returns
-returns c = rw (many-answered c.requires.stands c.list-r.ensures refl c.in-Accepted.is) at c.many.ensures
+returns c = rw (many-answered c.requires.stands c.list-r.ensures refl c.in_default.is) at c.many.ensures

@@ -5,12 +5,12 @@ use Rattle.console.proofs.Answering.{pair-refused, pair_found}
 use Rattle.console.proofs.ask.pair.Goals as goal
 
 -- where the pair is refused, its refusal is printed
-pub outcome-requires : goal.outcome-requires
-outcome-requires c = rw (pair-refused c.requires.stands c.pairs_by_labels-r.ensures refl c.in_default.is) c.requires.room
+pub refusal-requires : goal.refusal-requires
+refusal-requires c = rw (pair-refused c.requires.stands c.pairs_by_labels-r.ensures refl c.in-Refused.is) c.requires.room
 
-pub returns-in_default : goal.returns-in_default
-returns-in_default c = rw (pair-refused c.requires.stands c.pairs_by_labels-r.ensures refl c.in_default.is) at c.outcome.ensures
+pub returns-in-Refused : goal.returns-in-Refused
+returns-in-Refused c = rw (pair-refused c.requires.stands c.pairs_by_labels-r.ensures refl c.in-Refused.is) at c.refusal.ensures
 
 -- where it is accepted, its carrier and both branches are found
 pub lifted-requires-clause-found : goal.lifted-requires-clause-found
-lifted-requires-clause-found c = pair_found c.requires.stands c.pairs_by_labels-r.ensures refl c.in-Accepted.is
+lifted-requires-clause-found c = pair_found c.requires.stands c.pairs_by_labels-r.ensures refl c.in_default.is

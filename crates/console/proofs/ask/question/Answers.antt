@@ -1,15 +1,14 @@
 -- `console::ask::question` meets its contract: the next line is taken as a question.
 -- Assumes nothing.
-use Rattle.console.proofs.Taking.{question-unread, question-none, question-own}
+use Rattle.lines.specs.Read.{query}
+use Rattle.lines.specs.Gives.{query_of}
+use Rattle.lines.proofs.Taking.{takes, takes_none}
 use Rattle.console.proofs.ask.question.Goals as goal
 
-pub returns-in_default : goal.returns-in_default
-returns-in_default c = question-unread c.next_line-next.ensures c.in_default.is
+-- none was read
+pub returns-in_err-next : goal.returns-in_err-next
+returns-in_err-next c = rw c.from_residual.ensures (takes_none query_of query c.in_err-next.ensures.steps)
 
-pub returns-in_default-line : goal.returns-in_default-line
-returns-in_default-line c =
-    question-none c.next_line-next.ensures c.in-Legible.is c.in_default-line.not-Asked
-
+-- one was
 pub returns : goal.returns
-returns c =
-    question-own c.next_line-next.ensures c.in-Legible.is c.in-Asked.is
+returns c = takes query_of query c.in_ok-next.ensures.steps _ c.question.ensures

@@ -1,17 +1,16 @@
--- `console::ask::questions` meets its contract. The loop's invariant: the questions before `i` are answered, and the work and the numbers beside a question
--- have their lengths. The measure is what is left of the input.
+-- `console::ask::questions` meets its contract. The loop's invariant: the questions up to the reader's position are answered, and the number of the line there
+-- has grown by no more than the reader moved. The measure is what is left of the input.
 -- Assumes nothing.
-use Prim.Native.Nat.{◌-◌}
-use mathlib.Core.Path.{◌≡◌}
-use lib.ListN.{length}
-use Rattle.tree.specs.Buffers.{work_cells}
+use Prim.Native.Nat.{◌+◌, ◌≤◌}
+use Rattle.lines.specs.Gives.{rest_of, left_by}
 use Rattle.console.proofs.Asking.{AnsweredUpto}
 use Rattle.console.proofs.ask.questions.Given as goal
 
-abbrev pub invariant-loop-i : goal.invariant-loop-i
-invariant-loop-i l =
-    AnsweredUpto l.input l.at l.first l.parents l.initial.out l.put l.out l.i l.number l.next × (length l.work ≡ work_cells (length l.parents)) × (length l.beside ≡ 32)
+abbrev pub invariant-loop-reader : goal.invariant-loop-reader
+invariant-loop-reader l = record {
+  answered : AnsweredUpto (rest_of l.initial.reader) l.first l.parents l.initial.out l.put l.out (rest_of l.reader) l.number l.next;
+  numbered : l.number + left_by l.reader ≤ l.first + left_by l.initial.reader;
+}
 
-abbrev pub decreases-loop-i : goal.decreases-loop-i
-decreases-loop-i l =
-    length l.input - l.i
+abbrev pub decreases-loop-reader : goal.decreases-loop-reader
+decreases-loop-reader l = left_by l.reader

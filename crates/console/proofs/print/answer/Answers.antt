@@ -7,12 +7,12 @@ use Rattle.console.proofs.print.answer.Goals as goal
 
 pub put_word_number-a-requires : goal.put_word_number-a-requires
 unfolding answer_text bytes
-put_word_number-a-requires c = room-first _ (word_number (bytes " (carrier ") c.args.carrier) _ c.requires
+put_word_number-a-requires c = room-first _ (word_number (bytes " (carrier ") c.args.found.carrier) _ c.requires
 
 pub put_word_number-b-requires : goal.put_word_number-b-requires
 unfolding answer_text bytes
 put_word_number-b-requires c =
-    room-first _ (word_number (bytes ") (by ") c.args.left) _ (room-then _ _ c.requires c.put_word_number-a.ensures)
+    room-first _ (word_number (bytes ") (by ") c.args.found.left) _ (room-then _ _ c.requires c.put_word_number-a.ensures)
 
 pub put_word_number-requires : goal.put_word_number-requires
 unfolding answer_text bytes

@@ -1,19 +1,13 @@
 -- `console::sheet::part_line` meets its contract: the next line is taken as the line of its part.
 -- Assumes nothing.
-use Rattle.console.proofs.Taking.{entry-unread, entry-none, entry_other, entry-own}
+use Rattle.lines.specs.Read.{entry}
+use Rattle.lines.proofs.Taking.{takes, takes_none}
 use Rattle.console.proofs.sheet.part_line.Goals as goal
 
-pub returns-in_default : goal.returns-in_default
-returns-in_default c = entry-unread c.next_line-next.ensures c.in_default.is
+-- none was read
+pub returns-in_err-next : goal.returns-in_err-next
+returns-in_err-next c = rw c.from_residual.ensures (takes_none (λ p. p) (entry c.args.v) c.in_err-next.ensures.steps)
 
-pub returns-in_default-line : goal.returns-in_default-line
-returns-in_default-line c =
-    entry-none c.next_line-next.ensures c.in-Legible.is c.in_default-line.not-Part
-
-pub returns-then-w-v : goal.returns-then-w-v
-returns-then-w-v c =
-    entry_other c.next_line-next.ensures c.in-Legible.is c.in-Part.is c.if-w-v.true
-
+-- one was
 pub returns : goal.returns
-returns c =
-    entry-own c.next_line-next.ensures c.in-Legible.is c.in-Part.is c.if-w-v.false
+returns c = takes (λ p. p) (entry c.args.v) c.in_ok-next.ensures.steps _ c.entry.ensures

@@ -1,39 +1,33 @@
 -- `lines::form::many` meets its contract: the form's parts are looked for one behind the other.
 -- Assumes nothing.
-use Rattle.std.proofs.Common.{arith, refl}
+use Rattle.std.proofs.Common.{refl}
 use Rattle.text.specs.Bytes.{bytes}
+use Rattle.lines.specs.Gives.{form_of}
 use Rattle.lines.specs.Read.{many_form}
-use Rattle.lines.proofs.ReadingSteps.{stops, goes_on, left_over, read_whole, reads_nothing, reads-form}
+use Rattle.lines.specs.declared.form.Question.TheVariants.{Many}
+use Rattle.lines.specs.declared.form.Line.TheVariants.{Asked}
+use Rattle.lines.proofs.ReadingSteps.{stops, goes_on, read_whole}
 use Rattle.lines.proofs.form.many.Goals as goal
 
 -- no word begins the line
-pub returns-in_default : goal.returns-in_default
+pub returns-in_err-at : goal.returns-in_err-at
 unfolding many_form bytes
-returns-in_default c = reads_nothing (stops _ c.in_default.ensures.is)
+returns-in_err-at c = rw c.from_residual.ensures (stops _ c.in_err-at.ensures.is)
 
 -- the numbers behind it are none of a list
-pub returns-in_default-listed : goal.returns-in_default-listed
+pub returns-in_err-numbers : goal.returns-in_err-numbers
 unfolding many_form bytes
-returns-in_default-listed c = reads_nothing (goes_on _ c.in-At.ensures.is (stops _ c.in_default-listed.ensures.is))
+returns-in_err-numbers c = rw c.from_residual-in_err-numbers.ensures (goes_on _ c.in_ok-at.ensures.is (stops _ c.in_err-numbers.ensures.is))
 
 -- no bracket is behind them
-pub returns-in_default-find_word : goal.returns-in_default-find_word
+pub returns-in_err-end : goal.returns-in_err-end
 unfolding many_form bytes
-returns-in_default-find_word c =
-    reads_nothing (goes_on _ c.in-At.ensures.is (goes_on _ c.in-Listed.ensures.is (stops _ c.in_default-find_word.ensures.is)))
+returns-in_err-end c =
+    rw c.from_residual-in_err-end.ensures (goes_on _ c.in_ok-at.ensures.is (goes_on _ c.in_ok-numbers.ensures.is (stops _ c.in_err-end.ensures.is)))
 
--- other bytes are behind that
-pub returns-then-end-line : goal.returns-then-end-line
-unfolding many_form bytes
-returns-then-end-line c =
-    let bracket = c.in-At-find_word.ensures in
-    let rest = left_over _ _ _ bracket.within c.if-end-line.true in
-    reads_nothing (goes_on _ c.in-At.ensures.is (goes_on _ c.in-Listed.ensures.is (goes_on _ bracket.is rest)))
-
--- the line ends there
+-- the line ends there, or other bytes follow
 pub returns : goal.returns
 unfolding many_form bytes
 returns c =
-    let few = (c.in-Listed.ensures.within _ _ refl).0 in
-    let rest = read_whole _ _ _ c.if-end-line.false in
-    reads-form (omega arith) (goes_on _ c.in-At.ensures.is (goes_on _ c.in-Listed.ensures.is (goes_on _ c.in-At-find_word.ensures.is rest)))
+    let last = read_whole form_of _ _ (Asked (Many c.in_ok-numbers.numbers)) c.in_ok-end.ensures.within refl in
+    rw c.then_some.ensures (goes_on _ c.in_ok-at.ensures.is (goes_on _ c.in_ok-numbers.ensures.is (goes_on _ c.in_ok-end.ensures.is last)))

@@ -1,35 +1,28 @@
 -- `lines::form::two_numbers` meets its contract: the words and the numbers are looked for one behind the other.
 -- Assumes nothing.
+use Rattle.std.proofs.Common.{ℕ, refl}
 use Rattle.lines.specs.Read.{two_numbers}
-use Rattle.lines.proofs.ReadingSteps.{stops, goes_on, left_over, read_whole}
+use Rattle.lines.proofs.ReadingSteps.{stops, goes_on, read_whole}
 use Rattle.lines.proofs.form.two_numbers.Goals as goal
 
 -- the first word does not begin the line
-pub returns-in_default : goal.returns-in_default
+pub returns-in_err-at : goal.returns-in_err-at
 unfolding two_numbers
-returns-in_default c = stops _ c.in_default.ensures.is
+returns-in_err-at c = rw c.from_residual.ensures (stops _ c.in_err-at.ensures.is)
 
 -- no number is behind it
-pub returns-in_default-find_number_then : goal.returns-in_default-find_number_then
+pub returns-in_err-x : goal.returns-in_err-x
 unfolding two_numbers
-returns-in_default-find_number_then c = goes_on _ c.in-At.ensures.is (stops _ c.in_default-find_number_then.ensures.is)
+returns-in_err-x c = rw c.from_residual-in_err-x.ensures (goes_on _ c.in_ok-at.ensures.is (stops _ c.in_err-x.ensures.is))
 
 -- no second number is behind that
-pub returns-in_default-find_number_then-2 : goal.returns-in_default-find_number_then-2
+pub returns-in_err-y : goal.returns-in_err-y
 unfolding two_numbers
-returns-in_default-find_number_then-2 c =
-    goes_on _ c.in-At.ensures.is (goes_on _ c.in-Value.ensures.is (stops _ c.in_default-find_number_then-2.ensures.is))
+returns-in_err-y c = rw c.from_residual-in_err-y.ensures (goes_on _ c.in_ok-at.ensures.is (goes_on _ c.in_ok-x.ensures.is (stops _ c.in_err-y.ensures.is)))
 
--- other bytes are behind that
-pub returns-then-end-line : goal.returns-then-end-line
-unfolding two_numbers
-returns-then-end-line c =
-    let second = c.in-Value-find_number_then.ensures in
-    goes_on _ c.in-At.ensures.is (goes_on _ c.in-Value.ensures.is (goes_on _ second.is (left_over _ _ _ second.within c.if-end-line.true)))
-
--- the line ends there
+-- the line ends there, or other bytes follow
 pub returns : goal.returns
 unfolding two_numbers
 returns c =
-    let second = c.in-Value-find_number_then.ensures in
-    goes_on _ c.in-At.ensures.is (goes_on _ c.in-Value.ensures.is (goes_on _ second.is (read_whole _ _ _ c.if-end-line.false)))
+    let last = read_whole (λ (two : ℕ × ℕ). two) _ _ (c.in_ok-x.x, c.in_ok-y.y) c.in_ok-y.ensures.within refl in
+    rw c.then_some.ensures (goes_on _ c.in_ok-at.ensures.is (goes_on _ c.in_ok-x.ensures.is (goes_on _ c.in_ok-y.ensures.is last)))

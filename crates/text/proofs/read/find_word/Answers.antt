@@ -1,25 +1,22 @@
--- `text::read::find_word` meets its contract: i bytes of the word stand at the place.
+-- `text::read::find_word` meets its contract: the word stands at the place, or it does not.
 -- Assumes nothing.
-use Rattle.std.proofs.Common.{arith}
-use Rattle.text.proofs.Finding.{begun-none, begun_more, begun-other, begun-short, begun_all}
+use Rattle.std.proofs.Common.{sym, ◌∙◌, arith, length-drop}
+use Rattle.std.proofs.lemmas.Bool.{false≢true}
+use Rattle.std.proofs.lemmas.Slice.Eq.{starts_is}
+use Rattle.std.proofs.lemmas.Bool.Decides.{Decides-eqb}
+use Rattle.text.proofs.Ends.{all_behind}
+use Rattle.text.proofs.Finding.{word-there, no-word}
 use Rattle.text.proofs.read.find_word.Goals as goal
 
--- before the first byte
-pub loop-i-init : goal.loop-i-init
-loop-i-init c = begun-none _ _ _ c.requires
+-- it stands there
+pub returns-then-starts_with : goal.returns-then-starts_with
+returns-then-starts_with c =
+    let value = rw all_behind at c.starts_with.ensures.value in
+    let fits = rw all_behind at (c.starts_with.ensures.bound c.if-starts_with.true) in
+    word-there _ _ _ (omega (arith, length-drop c.args.at c.args.bytes.now)) ((starts_is Decides-eqb _ _ _ value).0 c.if-starts_with.true)
 
--- there is no next byte
-pub returns-then-bytes-at : goal.returns-then-bytes-at
-returns-then-bytes-at c = begun-short c.loop-i.invariant c.loop-i-test.true (omega arith)
-
--- the next byte is not the word's
-pub returns-then-bytes-at-2 : goal.returns-then-bytes-at-2
-returns-then-bytes-at-2 c = begun-other c.loop-i.invariant c.loop-i-test.true (omega arith) c.if-bytes-at-2.true
-
--- it is
-pub loop-i-preserved : goal.loop-i-preserved
-loop-i-preserved c = begun_more c.loop-i.invariant c.loop-i-test.true (omega arith) c.if-bytes-at-2.false
-
--- all bytes of the word stand there
-pub returns : goal.returns
-returns c = begun_all c.loop-i.invariant c.loop-i-test.false
+-- it does not
+pub returns-else-starts_with : goal.returns-else-starts_with
+returns-else-starts_with c =
+    let value = rw all_behind at c.starts_with.ensures.value in
+    no-word _ _ _ λ rest e. false≢true (sym c.if-starts_with.false ∙ (starts_is Decides-eqb _ _ _ value).1 rest e)

@@ -1,20 +1,13 @@
--- `text::read::line_end` meets its contract: no LF stands before i.
+-- `text::read::line_end` meets its contract: the first LF is looked for.
 -- Assumes nothing.
-use Rattle.text.proofs.Ends.{open_none, open_more, open-ended, open-unended}
+use Rattle.std.proofs.Common.{sym, ◌∙◌}
+use Rattle.text.proofs.Ends.{all_behind, ends_at, ends_nowhere}
 use Rattle.text.proofs.read.line_end.Goals as goal
 
--- before the first byte
-pub loop-i-init : goal.loop-i-init
-loop-i-init c = open_none _ _ c.requires
+-- there is none
+pub returns-in_err-i : goal.returns-in_err-i
+returns-in_err-i c = rw c.from_residual.ensures (ends_nowhere c.args.bytes.now c.args.at (rw all_behind at (sym c.first_lf.ensures ∙ c.in_err-i.was)))
 
--- an LF stands at i
-pub returns-then-bytes-i-eq10 : goal.returns-then-bytes-i-eq10
-returns-then-bytes-i-eq10 c = open-ended c.loop-i.invariant c.loop-i-test.true c.if-bytes-i-eq10.true
-
--- another byte does
-pub loop-i-preserved : goal.loop-i-preserved
-loop-i-preserved c = open_more c.loop-i.invariant c.loop-i-test.true c.if-bytes-i-eq10.false
-
--- the bytes end there
+-- it ends the line
 pub returns : goal.returns
-returns c = open-unended c.loop-i.invariant c.loop-i-test.false
+returns c = ends_at _ _ _ c.requires (rw all_behind at (sym c.first_lf.ensures ∙ c.in_ok-i.was))
