@@ -30,6 +30,7 @@ fn steps_up(sheet: &OwnTables<'_>, v0: usize, steps: usize) -> usize
 {
     let mut v = v0;
     let mut left = steps;
+    // No index is counted here: what is left falls by the power that is taken.
     while 0 < left {
         let k = bits::log2(left as u16) as usize;
         v = read::lifted(sheet, k, v);

@@ -100,17 +100,11 @@ pub(crate) fn deeper_first(sheet: &OwnTables<'_>, pair: Sides) -> Gap
     let Sides { x, y } = pair;
     let i = level(sheet, x) as usize;
     let j = level(sheet, y) as usize;
-    if i < j {
-        return Gap {
-            deep: y,
-            other: x,
-            steps: j - i,
-        };
-    }
+    let (deep, other) = if i < j { (y, x) } else { (x, y) };
     Gap {
-        deep: x,
-        other: y,
-        steps: i - j,
+        deep,
+        other,
+        steps: i.abs_diff(j),
     }
 }
 
@@ -121,14 +115,15 @@ fn raise_deeper(sheet: &OwnTables<'_>, k: usize, pair: Sides) -> Sides
 {
     let Sides { x, y } = pair;
     if level(sheet, y) < level(sheet, x) {
-        return Sides {
+        Sides {
             x: lifted(sheet, k, x),
             y,
-        };
-    }
-    Sides {
-        x,
-        y: lifted(sheet, k, y),
+        }
+    } else {
+        Sides {
+            x,
+            y: lifted(sheet, k, y),
+        }
     }
 }
 

@@ -56,7 +56,8 @@ pub(crate) fn back(sheet: &OwnTables<'_>, c: usize, x: usize) -> usize
     let last = tour[m + c] as usize + 2 * (label[n + c] as usize) - 2;
     let Covered { left, right } = cover(sheet, first, last);
     if tour[left] as usize == c {
-        return left;
+        left
+    } else {
+        right
     }
-    right
 }

@@ -18,9 +18,10 @@ pub(crate) fn nearer(sheet: &OwnTables<'_>, x: usize, y: usize) -> usize
     let label = sheet.label();
     let n = sheet.len();
     if label[2 * n + x] <= label[2 * n + y] {
-        return x;
+        x
+    } else {
+        y
     }
-    y
 }
 
 // Step 1: the greatest of the places of the lowest ones of both INLABELs and of the highest bit in which they differ:

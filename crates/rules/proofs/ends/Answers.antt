@@ -26,16 +26,19 @@ loop-part-preserved c =
     let m = here (goal.at.loop-part-preserved c).In-loop-part in
     let v = get_or c.args.question.now (c.loop-part.part-index + 1) 0 in
     let label = c.label-label.result.now in
-    let first-is : c.if-label-v.first ≡ cond (ltb (get_or label v 0) (get_or label c.loop-part.first 0)) v c.loop-part.first =
+    let a = get_or label v 0 in
+    let first-is : c.if-label-v.first ≡ cond (ltb a (get_or label c.loop-part.first 0)) v c.loop-part.first =
+    (let b = get_or label c.loop-part.first 0 in
     elim c.if-label-v.branch [
-      | then-label-v w ↦ rw (lt-ltb _ _ (rw m.is at w.if-label-v.true)) (w.first-is ∙ m.is)
-      | else-label-v w ↦ rw (le-ltb _ _ (rw m.is at w.if-label-v.false)) w.first-is
-    ] in
-    let last-is : c.if-label-last.last ≡ cond (ltb (get_or label c.loop-part.last 0) (get_or label v 0)) v c.loop-part.last =
+      | then-label-v w ↦ let h = rw m.is at w.if-label-v.true in rw (lt-ltb a b (omega arith)) (w.first-is ∙ m.is)
+      | else-label-v w ↦ let h = rw m.is at w.if-label-v.false in rw (le-ltb a b (omega arith)) w.first-is
+    ]) in
+    let last-is : c.if-label-last.last ≡ cond (ltb (get_or label c.loop-part.last 0) a) v c.loop-part.last =
+    (let b = get_or label c.loop-part.last 0 in
     elim c.if-label-last.branch [
-      | then-label-last w ↦ rw (lt-ltb _ _ (rw m.is at w.if-label-last.true)) (w.last-is ∙ m.is)
-      | else-label-last w ↦ rw (le-ltb _ _ (rw m.is at w.if-label-last.false)) w.last-is
-    ] in
+      | then-label-last w ↦ let h = rw m.is at w.if-label-last.true in rw (lt-ltb b a (omega arith)) (w.last-is ∙ m.is)
+      | else-label-last w ↦ let h = rw m.is at w.if-label-last.false in rw (le-ltb b a (omega arith)) w.last-is
+    ]) in
     scanned-step c.requires c.label-label.ensures m.inside c.loop-part.invariant first-is last-is
 
 pub returns : goal.returns

@@ -43,12 +43,12 @@ returns-then-tour-left c =
     (last-is (goal.at.returns-then-tour-left c).After-len-n) c.cover-left.ensures
     (sym (left-node (goal.at.returns-then-tour-left c).After-cover-left).is ∙ c.if-tour-left.true)
 
-pub returns : goal.returns
-returns c =
+pub returns-else-tour-left : goal.returns-else-tour-left
+returns-else-tour-left c =
     let below = c.requires in
-    right-back below.small.tree below.node below.carries below.other (first-is (goal.at.returns c).After-len-n) (last-is (goal.at.returns c).After-len-n)
+    right-back below.small.tree below.node below.carries below.other (first-is (goal.at.returns-else-tour-left c).After-len-n) (last-is (goal.at.returns-else-tour-left c).After-len-n)
     c.cover-left.ensures
-    (λ e. c.if-tour-left.false ((left-node (goal.at.returns c).After-cover-left).is ∙ e))
+    (λ e. c.if-tour-left.false ((left-node (goal.at.returns-else-tour-left c).After-cover-left).is ∙ e))
 
 pub bounds-tour-m : goal.bounds-tour-m
 bounds-tour-m c = omega (arith, facts (goal.at.bounds-tour-m c).After-len-n)
