@@ -7,11 +7,8 @@ use mathlib.Core.Path.{◌≡◌, refl, sym, ap, ap₂, ◌∙◌}
 use mathlib.Core.List.{List, [], ◌∷◌}
 use lib.ListN.{length, get_or}
 use Rattle.tree.specs.declared.Refusal.{Refusal}
-use Rattle.tree.specs.declared.Outcome.{Outcome}
-use Rattle.tree.specs.declared.Outcome.TheVariants as outcome
-use Rattle.tree.specs.declared.Traced.{Traced}
-use Rattle.tree.specs.declared.Traced.TheVariants as traced
-use Rattle.tree.specs.Verdict.{Verdict, accepted, refused, verdict_of, told, lifts_of}
+use Rattle.std.proofs.Common.{Result, Ok, Err}
+use Rattle.tree.specs.Verdict.{Verdict, accepted, refused, Outcome, verdict_of, lifts_of}
 use Rattle.tree.specs.Tests.{verdict, question_tests}
 use Rattle.tree.specs.Buffers.{answer_width, trail_cells}
 use Rattle.tree.specs.Lca.{Lca, lca}
@@ -65,12 +62,12 @@ module _ {t : Lent} {work : List ℕ} (stands : Stands t work) where
     pair-decides = g.answered.outcome ∙ decides (x ∷ y ∷ []) _ (pairs-fitting 2 (length cells) refl three)
 
     -- refused
-    pub pair-refused : {why : Refusal} → r ≡ outcome.Refused why → refusal_line why ≡ answer t.parents (pair x y)
+    pub pair-refused : {why : Refusal} → r ≡ Err why → refusal_line why ≡ answer t.parents (pair x y)
     unfolding answer
     pair-refused e = given-refused _ (ap verdict_of e) pair-decides
 
     -- answered: its carrier and both branches are found
-    pub pair_found : r ≡ outcome.Accepted → Found t.parents x y (record { carrier = get_or cells' 0 0; left = get_or cells' 1 0; right = get_or cells' 2 0 })
+    pub pair_found : r ≡ Ok tt → Found t.parents x y (record { carrier = get_or cells' 0 0; left = get_or cells' 1 0; right = get_or cells' 2 0 })
     pair_found e =
         let yes = sym pair-decides ∙ ap verdict_of e in
         let (_, inside) = question-accepted t.parents 0 (x ∷ y ∷ []) yes in
@@ -79,24 +76,24 @@ module _ {t : Lent} {work : List ℕ} (stands : Stands t work) where
 
   -- ---- the trail of a pair
 
-  module _ {x y : ℕ} {cells rows work' cells' rows' : List ℕ} {r : Traced} (g : TrailGives (lending t work (x ∷ y ∷ []) cells) rows r work' cells' rows')
+  module _ {x y : ℕ} {cells rows work' cells' rows' : List ℕ} {r : Result ℕ Refusal} (g : TrailGives (lending t work (x ∷ y ∷ []) cells) rows r work' cells' rows')
       (one : length cells ≡ 1) (whole : length rows ≡ trail_cells) where
     -- its verdict is that of its two numbers
-    trail-decides : verdict_of (told r) ≡ verdict (question_tests t.parents 0 (x ∷ y ∷ []))
+    trail-decides : verdict_of r ≡ verdict (question_tests t.parents 0 (x ∷ y ∷ []))
     trail-decides =
         g.answered.outcome ∙ decides (x ∷ y ∷ []) _ (trail-fitting 2 (length cells) (length rows) refl one whole)
 
     -- refused
-    pub trail-refused : {why : Refusal} → r ≡ traced.Refused why → refusal_line why ≡ answer t.parents (pair x y)
+    pub trail-refused : {why : Refusal} → r ≡ Err why → refusal_line why ≡ answer t.parents (pair x y)
     unfolding answer
-    trail-refused e = given-refused _ (ap (λ (u : Traced). verdict_of (told u)) e) trail-decides
+    trail-refused e = given-refused _ (ap verdict_of e) trail-decides
 
     -- traced: with the carrier and the branches that were found, its line is known
-    pub pair-answered : {lifts : ℕ} {a : PairAnswer} → r ≡ traced.Lifts lifts → Found t.parents x y a
+    pub pair-answered : {lifts : ℕ} {a : PairAnswer} → r ≡ Ok lifts → Found t.parents x y a
         → pair_line x y (answer_of a) lifts ≡ answer t.parents (pair x y)
     unfolding answer
     pair-answered {lifts} e found =
-        let yes : verdict_of (told r) ≡ accepted = ap (λ (u : Traced). verdict_of (told u)) e in
+        let yes : verdict_of r ≡ accepted = ap verdict_of e in
         let count : lifts ≡ lift_count t.parents x y = ap lifts_of (sym e) ∙ g.ones (sym g.answered.outcome ∙ yes) in
         ap₂ (pair_line x y) found.is count ∙ given-accepted _ yes trail-decides
 
@@ -108,11 +105,11 @@ module _ {t : Lent} {work : List ℕ} (stands : Stands t work) where
     list-decides = g.answered.outcome ∙ decides question _ (list-fitting (length cells) one)
 
     -- refused
-    pub many-refused : {why : Refusal} → r ≡ outcome.Refused why → refusal_line why ≡ answer t.parents (many question)
+    pub many-refused : {why : Refusal} → r ≡ Err why → refusal_line why ≡ answer t.parents (many question)
     unfolding answer
     many-refused e = given-refused _ (ap verdict_of e) list-decides
 
-    module _ (e : r ≡ outcome.Accepted) where
+    module _ (e : r ≡ Ok tt) where
       -- it is accepted, and its carrier is known
       list-yes : verdict_of r ≡ accepted
       list-yes = ap verdict_of e

@@ -6,9 +6,8 @@ use mathlib.Core.List.{List}
 use borrow.Author.Tests.{eq-eqb}
 use lib.ListN.{length, length-replicate}
 use Rattle.tree.specs.declared.Refusal.{Refusal}
-use Rattle.tree.specs.declared.Outcome.{Outcome}
-use Rattle.tree.specs.declared.Outcome.TheVariants.{Accepted, Refused}
-use Rattle.tree.specs.Verdict.{accepted, verdict_of}
+use Rattle.std.proofs.Common.{Ok, Err}
+use Rattle.tree.specs.Verdict.{accepted, verdict_of, Outcome}
 use Rattle.tree.specs.Tests.{verdict, sheet_tests}
 use Rattle.tree.specs.Buffers.{filled}
 use Rattle.tree.specs.Tables.{Lent}
@@ -38,11 +37,11 @@ module _ {t : Lent} {work label' tour' lift' order' work' : List ℕ} {r : Outco
   sheet-decides = g.answered.outcome ∙ ap (λ (buffer : ℕ). verdict (sheet_tests t.parents buffer)) fits
 
   -- a refused sheet's line is all that is printed
-  pub sheet-refused : {why : Refusal} (rest : Lines) → r ≡ Refused why → refusal_line why ≡ sheet_run (sheet t.parents rest)
+  pub sheet-refused : {why : Refusal} (rest : Lines) → r ≡ Err why → refusal_line why ≡ sheet_run (sheet t.parents rest)
   unfolding sheet_run
   sheet-refused rest e = given-refused _ (ap verdict_of e) sheet-decides
 
-  module _ (e : r ≡ Accepted) where
+  module _ (e : r ≡ Ok tt) where
     -- an accepted one's questions are answered
     pub sheet-accepted : (rest : Lines) → questions t.parents (part_line (length t.parents)) rest ≡ sheet_run (sheet t.parents rest)
     unfolding sheet_run

@@ -6,14 +6,14 @@ use Rattle.console.proofs.ask.lifted.Goals as goal
 
 -- where the pair is refused, its refusal is printed
 pub refusal-requires : goal.refusal-requires
-refusal-requires c = rw (trail-refused c.requires.stands c.trail-r.ensures refl refl c.in-Refused.is) c.requires.room
+refusal-requires c = rw (trail-refused c.requires.stands c.trail.ensures refl refl c.in-Err.is) c.requires.room
 
-pub returns-in-Refused : goal.returns-in-Refused
-returns-in-Refused c = rw (trail-refused c.requires.stands c.trail-r.ensures refl refl c.in-Refused.is) at c.refusal.ensures
+pub returns-in-Err : goal.returns-in-Err
+returns-in-Err c = rw (trail-refused c.requires.stands c.trail.ensures refl refl c.in-Err.is) at c.refusal.ensures
 
 -- where it is traced, its line
 pub pair-requires : goal.pair-requires
-pair-requires c = rw (← pair-answered c.requires.stands c.trail-r.ensures refl refl c.in-Lifts.is c.requires.found) at c.requires.room
+pair-requires c = rw (← pair-answered c.requires.stands c.trail.ensures refl refl c.in-Ok.is c.requires.found) at c.requires.room
 
-pub returns-in-Lifts : goal.returns-in-Lifts
-returns-in-Lifts c = rw (pair-answered c.requires.stands c.trail-r.ensures refl refl c.in-Lifts.is c.requires.found) at c.pair.ensures
+pub returns-in-Ok : goal.returns-in-Ok
+returns-in-Ok c = rw (pair-answered c.requires.stands c.trail.ensures refl refl c.in-Ok.is c.requires.found) at c.pair.ensures

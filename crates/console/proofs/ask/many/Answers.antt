@@ -6,14 +6,14 @@ use Rattle.console.proofs.ask.many.Goals as goal
 
 -- where the list is refused, its refusal is printed
 pub refusal-requires : goal.refusal-requires
-refusal-requires c = rw (many-refused c.requires.stands c.list-r.ensures refl c.in-Refused.is) c.requires.room
+refusal-requires c = rw (many-refused c.requires.stands c.list.ensures refl c.in-Err.is) c.requires.room
 
-pub returns-in-Refused : goal.returns-in-Refused
-returns-in-Refused c = rw (many-refused c.requires.stands c.list-r.ensures refl c.in-Refused.is) at c.refusal.ensures
+pub returns-in-Err : goal.returns-in-Err
+returns-in-Err c = rw (many-refused c.requires.stands c.list.ensures refl c.in-Err.is) at c.refusal.ensures
 
 -- where it is accepted, its line
 pub many-requires : goal.many-requires
-many-requires c = rw (many-answered c.requires.stands c.list-r.ensures refl c.in_default.is) c.requires.room
+many-requires c = rw (many-answered c.requires.stands c.list.ensures refl c.in_default.is) c.requires.room
 
 pub returns : goal.returns
-returns c = rw (many-answered c.requires.stands c.list-r.ensures refl c.in_default.is) at c.many.ensures
+returns c = rw (many-answered c.requires.stands c.list.ensures refl c.in_default.is) at c.many.ensures

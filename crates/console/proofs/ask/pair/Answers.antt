@@ -6,11 +6,11 @@ use Rattle.console.proofs.ask.pair.Goals as goal
 
 -- where the pair is refused, its refusal is printed
 pub refusal-requires : goal.refusal-requires
-refusal-requires c = rw (pair-refused c.requires.stands c.pairs_by_labels-r.ensures refl c.in-Refused.is) c.requires.room
+refusal-requires c = rw (pair-refused c.requires.stands c.pairs_by_labels.ensures refl c.in-Err.is) c.requires.room
 
-pub returns-in-Refused : goal.returns-in-Refused
-returns-in-Refused c = rw (pair-refused c.requires.stands c.pairs_by_labels-r.ensures refl c.in-Refused.is) at c.refusal.ensures
+pub returns-in-Err : goal.returns-in-Err
+returns-in-Err c = rw (pair-refused c.requires.stands c.pairs_by_labels.ensures refl c.in-Err.is) at c.refusal.ensures
 
 -- where it is accepted, its carrier and both branches are found
 pub lifted-requires-clause-found : goal.lifted-requires-clause-found
-lifted-requires-clause-found c = pair_found c.requires.stands c.pairs_by_labels-r.ensures refl c.in_default.is
+lifted-requires-clause-found c = pair_found c.requires.stands c.pairs_by_labels.ensures refl c.in_default.is
