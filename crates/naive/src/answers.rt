@@ -1,115 +1,64 @@
 // The answers of an accepted call against the plain climber's.
 
-use crate::buffer::{first_difference, get, number};
-use crate::climb::{branch, carrier, fold, level};
-use crate::number::{plus, times};
-use crate::tally::{agree, count};
-use crate::trail as plain;
+use crate::call::{Buffer, Call};
+use crate::climb::Sheet;
+use crate::junk::cell;
+use crate::log::{Log, Point};
+use crate::trail;
+use crate::trail::Sides;
+use arrayvec::ArrayVec;
 
-// The answer to each pair.
-pub fn pairs(
-    call: usize,
-    sheet: &[u16],
-    question: &[u16],
-    answer: &[u16],
-    lent: &[usize],
-    log: &mut [usize],
-) {
-    let n = number(lent, 0);
-    let many = number(lent, 5) / 2;
-    let mut i = 0;
-    while i < many {
-        pair(call, n, i, sheet, question, answer, log);
-        i += 1;
+// The answers to as many pairs as are asked.
+type Answers = ArrayVec<u16, 900>;
+
+// The answer to each pair, in three cells: its carrier, and the branches towards x and y.
+pub fn pairs(call: Call, sheet: Sheet, question: &[u16], answer: &[u16], log: &mut Log) {
+    let mut expected = Answers::new();
+    for pair in question.chunks_exact(2) {
+        if let [x, y] = pair {
+            let own = answer_of(sheet, usize::from(*x), usize::from(*y));
+            let _ = expected.try_extend_from_slice(&own);
+        }
     }
-    count(6, many, log);
+    log.same(call, Buffer::Answer, expected.as_slice(), answer);
+    log.pairs = log.pairs.saturating_add(question.len() / 2);
 }
 
-// The answer to pair i, in three cells: its carrier, and the branches towards x and y.
-fn pair(
-    call: usize,
-    n: usize,
-    i: usize,
-    sheet: &[u16],
-    question: &[u16],
-    answer: &[u16],
-    log: &mut [usize],
-) {
-    let x = get(question, times(2, i));
-    let y = get(question, plus(times(2, i), 1));
-    let c = carrier(sheet, n, x, y);
-    let at = times(3, i);
-    agree(call, 6, at, c, get(answer, at), log);
-    same_branch(call, n, c, x, sheet, answer, plus(at, 1), log);
-    same_branch(call, n, c, y, sheet, answer, plus(at, 2), log);
+// The carrier of a pair, and its branches towards both.
+fn answer_of(sheet: Sheet, x: usize, y: usize) -> [u16; 3] {
+    let carrier = sheet.carrier(x, y);
+    [carrier, sheet.branch(carrier, x), sheet.branch(carrier, y)].map(cell)
 }
 
-// The branch of c towards x, in one cell.
-fn same_branch(
-    call: usize,
-    n: usize,
-    c: usize,
-    x: usize,
-    sheet: &[u16],
-    answer: &[u16],
-    at: usize,
-    log: &mut [usize],
-) {
-    let own = branch(sheet, n, c, x);
-    agree(call, 6, at, own, get(answer, at), log);
-}
-
-// The trail of one pair: its rows, its carrier, and its count, which is the formula's too.
+// The trail of one pair: its rows, its carrier, which is the plain climber's too, and its count, which is the formula's too.
 pub fn trail(
     lifts: usize,
-    sheet: &[u16],
+    sheet: Sheet,
     question: &[u16],
     answer: &[u16],
     rows: &[u16],
-    lent: &[usize],
-    log: &mut [usize],
+    log: &mut Log,
 ) {
-    let mut own = [0u16; 64];
-    let n = number(lent, 0);
-    let x = get(question, 0);
-    let y = get(question, 1);
-    let end = plain::trail(n, x, y, sheet, &mut own);
-    agree(6, 11, 0, end.lifts, lifts, log);
-    agree(6, 6, 0, end.x, get(answer, 0), log);
-    same_rows(rows, &own, log);
-    formula(n, lifts, x, y, sheet, answer, log);
-    count(7, 1, log);
-}
-
-// The rows of a trail, and 65535 after them.
-fn same_rows(rows: &[u16], own: &[u16], log: &mut [usize]) {
-    let i = first_difference(rows, own, 0, 64);
-    if i < 64 {
-        agree(6, 7, i, get(own, i), get(rows, i), log);
-    }
-}
-
-// The answer is the plain climber's, and the count of lifts the formula's.
-fn formula(
-    n: usize,
-    lifts: usize,
-    x: usize,
-    y: usize,
-    sheet: &[u16],
-    answer: &[u16],
-    log: &mut [usize],
-) {
-    let met = carrier(sheet, n, x, y);
-    agree(6, 6, 0, met, get(answer, 0), log);
-    let a = level(sheet, n, x);
-    let b = level(sheet, n, y);
-    let c = level(sheet, n, met);
-    agree(6, 12, 0, plain::lifts(a, b, c), lifts, log);
+    let ([x, y], [came]) = (question, answer) else {
+        return;
+    };
+    let x = usize::from(*x);
+    let y = usize::from(*y);
+    let own = Sides::traced(sheet, x, y);
+    let met = sheet.carrier(x, y);
+    log.agree(Some(Call::Trail), Point::Lifts, own.lifts(), lifts);
+    log.agree_at(Call::Trail, Buffer::Answer, 0, cell(own.x), *came);
+    log.same(Call::Trail, Buffer::Trail, own.into_rows().as_slice(), rows);
+    log.agree_at(Call::Trail, Buffer::Answer, 0, cell(met), *came);
+    let expected = trail::lifts(sheet.level(x), sheet.level(y), sheet.level(met));
+    log.agree(Some(Call::Trail), Point::Formula, expected, lifts);
+    log.trails = log.trails.saturating_add(1);
 }
 
 // The carrier of a list.
-pub fn list(sheet: &[u16], question: &[u16], answer: &[u16], lent: &[usize], log: &mut [usize]) {
-    let n = number(lent, 0);
-    let m = number(lent, 5);
-    agree(7, 6, 0, fold(sheet, n, question, m), get(answer, 0), log);
+pub fn list(sheet: Sheet, question: &[u16], answer: &[u16], log: &mut Log) {
+    if let [came] = answer {
+        let expected = cell(sheet.carrier_of(question));
+        log.agree_at(Call::List, Buffer::Answer, 0, expected, *came);
+    }
 }

@@ -1,92 +1,73 @@
 // Asking pairs and trails.
 
-use crate::buffer::put;
-use crate::hold::hold;
-use crate::number::{rest, times};
-use crate::tally::below;
-use crate::tests::Said;
-use crate::{fit, large};
+use crate::call::{Call, ROUTES};
+use crate::fit::Lent;
+use crate::hold::{Held, hold};
+use crate::junk::cell;
+use crate::log::{Log, Random};
+use arrayvec::ArrayVec;
 
-// How many pairs are asked of a sheet of n parts: all of a small one, in both orders.
+// A question of as many pairs as are asked.
+type Question = ArrayVec<u16, 600>;
+
+// How many pairs are asked of a sheet of n parts that has too many for all to be asked.
 fn pairs_of(n: usize) -> usize {
-    if n < 18 {
-        return times(n, n);
-    }
-    if n < 1000 {
-        return 300;
-    }
-    100
+    if n < 1000 { 300 } else { 100 }
 }
 
 // How many trails.
 fn trails_of(n: usize) -> usize {
-    if n < 1000 {
-        return 20;
-    }
-    10
+    if n < 1000 { 20 } else { 10 }
 }
 
-// Cell i of a question of pairs: of all pairs in turn, or at random.
-fn part(i: usize, n: usize, log: &mut [usize]) -> usize {
-    if 17 < n {
-        return below(n, log);
+// All pairs of a small sheet, in both orders, or some at random.
+fn pairs_in(n: usize, random: &mut Random) -> Question {
+    let mut question = Question::new();
+    if n < 18 {
+        for x in 0..n {
+            for y in 0..n {
+                let _ = question.try_push(cell(x));
+                let _ = question.try_push(cell(y));
+            }
+        }
+    } else {
+        for _ in 0..pairs_of(n) {
+            let _ = question.try_push(cell(random.below(n)));
+            let _ = question.try_push(cell(random.below(n)));
+        }
     }
-    if i % 2 == 1 {
-        return rest(i / 2, n);
-    }
-    if n == 0 {
-        return 0;
-    }
-    i / 2 / n
-}
-
-// Fills the cells of a question of pairs.
-fn list_pairs(cells: usize, n: usize, question: &mut [u16], log: &mut [usize]) {
-    let mut i = 0;
-    while i < cells {
-        let x = part(i, n, log);
-        put(question, i, x);
-        i += 1;
-    }
-}
-
-// Fills the cells of a question at random.
-pub fn list_parts(cells: usize, n: usize, question: &mut [u16], log: &mut [usize]) {
-    let mut i = 0;
-    while i < cells {
-        let x = below(n, log);
-        put(question, i, x);
-        i += 1;
-    }
+    question
 }
 
 // Asks pairs by each of the three routes.
-pub fn pairs(n: usize, tree: Said, sheet: &[u16], own: &[u16], log: &mut [usize]) {
-    let mut question = large::question();
-    let mut lent = [0usize; 9];
-    let count = pairs_of(n);
-    fit::all(3, n, count, &mut lent);
-    list_pairs(times(2, count), n, &mut question, log);
-    hold(3, n, tree, fit::NONE, sheet, own, &question, &lent, log);
-    hold(4, n, tree, fit::NONE, sheet, own, &question, &lent, log);
-    hold(5, n, tree, fit::NONE, sheet, own, &question, &lent, log);
-}
-
-// Asks trails.
-pub fn trails(n: usize, tree: Said, sheet: &[u16], own: &[u16], log: &mut [usize]) {
-    let many = trails_of(n);
-    let mut i = 0;
-    while i < many {
-        trail(n, tree, sheet, own, log);
-        i += 1;
+pub fn pairs(held: Held, log: &mut Log) {
+    let n = held.sheet.n;
+    let question = pairs_in(n, &mut log.random);
+    for route in ROUTES {
+        let lent = Lent::all(route, n, question.len() / 2);
+        hold(route, held, question.as_slice(), lent, log);
     }
 }
 
-// Asks the trail of a random pair.
-fn trail(n: usize, tree: Said, sheet: &[u16], own: &[u16], log: &mut [usize]) {
-    let mut question = [0u16; 2];
-    let mut lent = [0usize; 9];
-    fit::all(6, n, 1, &mut lent);
-    list_parts(2, n, &mut question, log);
-    hold(6, n, tree, fit::NONE, sheet, own, &question, &lent, log);
+// Fills a question with parts at random.
+pub fn fill(n: usize, question: &mut [u16], random: &mut Random) {
+    for part in question.iter_mut() {
+        *part = cell(random.below(n));
+    }
+}
+
+// Asks trails of random pairs.
+pub fn trails(held: Held, log: &mut Log) {
+    let n = held.sheet.n;
+    for _ in 0..trails_of(n) {
+        let mut question = [0; 2];
+        fill(n, &mut question, &mut log.random);
+        hold(
+            Call::Trail,
+            held,
+            &question,
+            Lent::all(Call::Trail, n, 1),
+            log,
+        );
+    }
 }

@@ -1,96 +1,74 @@
 // The calls under test, and what they answered in plain numbers.
 
-use crate::tests::{Said, at};
+use crate::call::Call;
+use crate::lend::{Buffers, Outputs, Tables};
+use crate::tests::{Refused, Said};
 use tree::{Outcome, Refusal, Traced};
 
 // A refusal's number and place.
-fn refused(why: Refusal) -> Said {
+fn refused(why: Refusal) -> Refused {
     let shown = why.number_and_place();
-    at(shown.number as usize, shown.place)
+    Refused {
+        number: shown.number as usize,
+        place: shown.place,
+    }
 }
 
 // An outcome in numbers.
 fn said(r: Outcome) -> Said {
     match r {
-        Outcome::Accepted => at(0, 0),
-        Outcome::Refused(why) => refused(why),
+        Outcome::Accepted => Ok(0),
+        Outcome::Refused(why) => Err(refused(why)),
     }
 }
 
 // What tracing a pair answered, in numbers.
 fn traced(r: Traced) -> Said {
     match r {
-        Traced::Lifts(lifts) => Said {
-            number: 0,
-            place: 0,
-            lifts,
-        },
-        Traced::Refused(why) => refused(why),
+        Traced::Lifts(lifts) => Ok(lifts),
+        Traced::Refused(why) => Err(refused(why)),
     }
-}
-
-// Checks a sheet.
-pub fn check(sheet: &[u16], work: &mut [u16]) -> Said {
-    said(tables::check(sheet, work))
 }
 
 // Builds the tables of a sheet.
-pub fn build(
-    sheet: &[u16],
-    label: &mut [u16],
-    tour: &mut [u16],
-    lift: &mut [u16],
-    order: &mut [u16],
-    work: &mut [u16],
-) -> Said {
-    said(tables::build(sheet, label, tour, lift, order, work))
-}
-
-// Compares tables with a sheet.
-pub fn compare(
-    sheet: &[u16],
-    label: &[u16],
-    tour: &[u16],
-    lift: &[u16],
-    order: &[u16],
-    work: &mut [u16],
-) -> Said {
-    said(tables::compare(sheet, label, tour, lift, order, work))
-}
-
-// Asks pairs by a route, or a list.
-pub fn ask(
-    call: usize,
-    sheet: &[u16],
-    label: &[u16],
-    tour: &[u16],
-    lift: &[u16],
-    order: &[u16],
-    work: &mut [u16],
-    question: &[u16],
-    answer: &mut [u16],
-) -> Said {
-    match call {
-        3 => said(routes::pairs_by_labels(sheet, label, tour, lift, order, work, question, answer)),
-        4 => said(routes::pairs_by_tour(sheet, label, tour, lift, order, work, question, answer)),
-        5 => said(routes::pairs_by_lifts(sheet, label, tour, lift, order, work, question, answer)),
-        _ => said(routes::list(sheet, label, tour, lift, order, work, question, answer)),
-    }
-}
-
-// Asks the trail of a pair.
-pub fn trail(
-    sheet: &[u16],
-    label: &[u16],
-    tour: &[u16],
-    lift: &[u16],
-    order: &[u16],
-    work: &mut [u16],
-    question: &[u16],
-    answer: &mut [u16],
-    rows: &mut [u16],
-) -> Said {
-    traced(routes::trail(
-        sheet, label, tour, lift, order, work, question, answer, rows,
+pub fn build(sheet: &[u16], buffers: &mut Buffers, work: &mut [u16]) -> Said {
+    said(tables::build(
+        sheet,
+        buffers.label,
+        buffers.tour,
+        buffers.lift,
+        buffers.order,
+        work,
     ))
+}
+
+// Makes a call on buffers that are lent; of a build, which has buffers of its own, the check that it begins with.
+pub fn make(call: Call, tables: Tables, question: &[u16], outputs: &mut Outputs) -> Said {
+    let Tables {
+        sheet,
+        label,
+        tour,
+        lift,
+        order,
+    } = tables;
+    let work = &mut *outputs.work;
+    let answer = &mut *outputs.answer;
+    let rows = &mut *outputs.rows;
+    match call {
+        Call::Check | Call::Build => said(tables::check(sheet, work)),
+        Call::Compare => said(tables::compare(sheet, label, tour, lift, order, work)),
+        Call::Labels => said(routes::pairs_by_labels(
+            sheet, label, tour, lift, order, work, question, answer,
+        )),
+        Call::Tour => said(routes::pairs_by_tour(
+            sheet, label, tour, lift, order, work, question, answer,
+        )),
+        Call::Lifts => said(routes::pairs_by_lifts(
+            sheet, label, tour, lift, order, work, question, answer,
+        )),
+        Call::Trail => traced(routes::trail(
+            sheet, label, tour, lift, order, work, question, answer, rows,
+        )),
+        Call::List => said(routes::list(sheet, label, tour, lift, order, work, question, answer)),
+    }
 }

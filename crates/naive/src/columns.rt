@@ -1,108 +1,62 @@
 // The columns of the label table by climbing and by looking.
 
-use crate::buffer::{get, put};
-use crate::number::{log, plus, power, times, zeros};
+use crate::climb::Sheet;
+use crate::fit::{log, power};
+use crate::junk::cell;
 
 // SIZE: each part counts as one of those that each of its carriers carries.
-pub fn sizes(n: usize, sheet: &[u16], own: &mut [u16]) {
-    let mut v = 0;
-    while v < n {
-        count_up(n, v, sheet, own);
-        v += 1;
-    }
-}
-
-// Counts one part at each of its carriers.
-fn count_up(n: usize, v: usize, sheet: &[u16], own: &mut [u16]) {
-    let mut at = v;
-    let mut i = 0;
-    while i < n {
-        count_one(plus(n, at), own);
-        let next = get(sheet, at);
-        if next == at {
-            return;
+pub fn sizes(sheet: Sheet, size: &mut [u16]) {
+    size.fill(0);
+    for v in 0..sheet.n {
+        for carrier in sheet.climb(v) {
+            if let Some(count) = size.get_mut(carrier) {
+                *count = count.wrapping_add(1);
+            }
         }
-        at = next;
-        i += 1;
     }
 }
 
-// Adds 1 to a cell.
-fn count_one(i: usize, own: &mut [u16]) {
-    let count = get(own, i);
-    put(own, i, plus(count, 1));
+// LEVEL: the steps to the root.
+pub fn levels(sheet: Sheet, level: &mut [u16]) {
+    for (v, steps) in level.iter_mut().enumerate() {
+        *steps = cell(sheet.level(v));
+    }
 }
 
 // INLABEL: the number in PREORDER..PREORDER+SIZE-1 with most rightmost zero bits.
-pub fn inlabel(n: usize, v: usize, own: &[u16]) -> usize {
-    roundest(get(own, v), get(own, plus(n, v)))
-}
-
-// The number with most rightmost zero bits among `count` from `from` on.
-fn roundest(from: usize, count: usize) -> usize {
-    let mut best = from;
-    let mut most = zeros(from);
-    let mut i = 1;
-    while i < count {
-        let z = zeros(plus(from, i));
-        if most < z {
-            most = z;
-            best = plus(from, i);
-        }
-        i += 1;
+pub fn inlabels(preorder: &[u16], size: &[u16], inlabel: &mut [u16]) {
+    for ((k, from), count) in inlabel.iter_mut().zip(preorder).zip(size) {
+        let to = from.saturating_add(*count);
+        *k = (*from..to).max_by_key(|x| x.trailing_zeros()).unwrap_or(0);
     }
-    best
 }
 
 // ASCENDANT: 2^l at the root, l = log n, and the lowest one bit of INLABEL of each carrier whose INLABEL is not its entry's.
-pub fn ascendant(n: usize, v: usize, sheet: &[u16], own: &[u16]) -> usize {
-    let mut sum = power(log(n));
-    let mut at = v;
-    let mut i = 0;
-    while i < n {
-        let next = get(sheet, at);
-        if next == at {
-            return sum;
-        }
-        sum = plus(sum, added(n, at, next, own));
-        at = next;
-        i += 1;
+pub fn ascendants(sheet: Sheet, inlabel: &[u16], ascendant: &mut [u16]) {
+    for (v, sum) in ascendant.iter_mut().enumerate() {
+        let added = sheet.climb(v).map(|u| added(sheet, u, inlabel));
+        *sum = cell(added.fold(0usize, |sum, bit| sum.wrapping_add(bit)));
     }
-    sum
 }
 
-// What a part adds to its entry's ASCENDANT.
-fn added(n: usize, v: usize, entry: usize, own: &[u16]) -> usize {
-    let inlabels = times(3, n);
-    let k = get(own, plus(inlabels, v));
-    if k == get(own, plus(inlabels, entry)) {
-        return 0;
+// What a part adds to the ASCENDANT of those that it carries.
+fn added(sheet: Sheet, v: usize, inlabel: &[u16]) -> usize {
+    let parent = sheet.parent(v);
+    if parent == v {
+        return power(log(sheet.n));
     }
-    power(zeros(k))
+    match inlabel.get(v) {
+        Some(k) if inlabel.get(parent) != Some(k) => usize::from(*k & k.wrapping_neg()),
+        _ => 0,
+    }
 }
 
-// HEAD: the part nearest the root with INLABEL k, or 65535.
-pub fn head(n: usize, k: usize, own: &[u16]) -> usize {
-    let mut best = 65535;
-    let mut v = 0;
-    while v < n {
-        best = nearer(n, k, v, best, own);
-        v += 1;
+// HEAD: the part nearest the root with each INLABEL from 1 on, or 65535.
+pub fn heads(inlabel: &[u16], level: &[u16], head: &mut [u16]) {
+    for (i, head) in head.iter_mut().enumerate() {
+        let k = cell(i.saturating_add(1));
+        let labelled = (0..inlabel.len()).filter(|v| inlabel.get(*v) == Some(&k));
+        let nearest = labelled.min_by_key(|v| level.get(*v).copied());
+        *head = cell(nearest.unwrap_or(65535));
     }
-    best
-}
-
-// Part v if its INLABEL is k and it is nearer the root than the best so far, or the best so far.
-fn nearer(n: usize, k: usize, v: usize, best: usize, own: &[u16]) -> usize {
-    if get(own, plus(times(3, n), v)) != k {
-        return best;
-    }
-    if best == 65535 {
-        return v;
-    }
-    let levels = times(2, n);
-    if get(own, plus(levels, v)) < get(own, plus(levels, best)) {
-        return v;
-    }
-    best
 }

@@ -1,138 +1,173 @@
 // Damage to a sheet and to tables.
 
-use crate::buffer::{get, put};
-use crate::climb::{level, up};
+use crate::climb::Sheet;
 use crate::fit;
-use crate::number::{least, minus, plus, rest, times};
-use crate::tally::below;
-use crate::tests::next_root;
+use crate::junk::cell;
+use crate::log::Random;
 
-// Two cells: the one at a holds x, and the one at b holds y.
-#[derive(Clone, Copy)]
-pub struct Cells {
-    pub a: usize,
-    pub x: usize,
-    pub b: usize,
-    pub y: usize,
-}
+// Two cells, each with its place and what it holds. One cell is changed twice.
+pub type Cells = [(usize, u16); 2];
 
 // One cell, twice.
-fn once(a: usize, x: usize) -> Cells {
-    Cells { a, x, b: a, y: x }
+fn once(at: usize, x: usize) -> Cells {
+    [(at, cell(x)), (at, cell(x))]
 }
 
-// What the two cells hold at present.
-pub fn present(at: Cells, cells: &[u16]) -> Cells {
-    Cells {
-        a: at.a,
-        x: get(cells, at.a),
-        b: at.b,
-        y: get(cells, at.b),
+// Stores two cells, and gives what they held.
+pub fn change(to: Cells, cells: &mut [u16]) -> Cells {
+    let held = to.map(|(at, _)| (at, cells.get(at).copied().unwrap_or(0)));
+    for (at, x) in to {
+        if let Some(cell) = cells.get_mut(at) {
+            *cell = x;
+        }
     }
+    held
 }
 
-// Stores two cells.
-pub fn change(to: Cells, cells: &mut [u16]) {
-    put(cells, to.a, to.x);
-    put(cells, to.b, to.y);
+// What is wrong with a sheet.
+#[derive(Clone, Copy)]
+pub enum Wrong {
+    // An entry off the sheet, or two.
+    Off,
+    TwoOff,
+    // No part names itself, or two do.
+    Rootless,
+    SecondRoot,
+    // Two parts in each other, or a part next to the root in one that it carries, or in itself.
+    LoopOfTwo,
+    LoopOfMany,
 }
 
-// The first of the two places.
-pub fn first(at: Cells) -> usize {
-    least(at.a, at.b)
-}
+impl Wrong {
+    pub const ALL: [Wrong; 6] = [
+        Wrong::Off,
+        Wrong::TwoOff,
+        Wrong::Rootless,
+        Wrong::SecondRoot,
+        Wrong::LoopOfTwo,
+        Wrong::LoopOfMany,
+    ];
 
-// The entries that a case gives a sheet of n parts: 19 one off the sheet, 20 two; 21 none names itself; 22 a second root; 23 two parts in each other;
-// 24 a part next to the root in one that it carries, or in itself; 33 as 19, 34 as 24. Any other case changes nothing.
-pub fn entries(case: usize, n: usize, sheet: &[u16], log: &mut [usize]) -> Cells {
-    let root = next_root(sheet, n, 0);
-    match case {
-        19 | 33 => once(below(n, log), off(n, log)),
-        20 => two_off(n, log),
-        21 => once(root, other(n, root, log)),
-        22 => second_root(n, root, log),
-        23 => loop_of_two(n, root, log),
-        24 | 34 => loop_of_many(n, root, sheet, log),
-        _ => once(root, root),
+    // Whether a sheet of n parts can be wrong in this way.
+    pub fn applies(self, n: usize) -> bool {
+        match self {
+            Wrong::Off | Wrong::TwoOff => true,
+            Wrong::Rootless | Wrong::SecondRoot | Wrong::LoopOfMany => 1 < n,
+            Wrong::LoopOfTwo => 2 < n,
+        }
+    }
+
+    // The entries that make a sheet wrong.
+    pub fn entries(self, sheet: Sheet, random: &mut Random) -> Cells {
+        let n = sheet.n;
+        let root = sheet.root(0).unwrap_or(n);
+        match self {
+            Wrong::Off => once(random.below(n), off(n, random)),
+            Wrong::TwoOff => two(n, random, |_, random| off(n, random)),
+            Wrong::Rootless => once(root, other(n, root, random)),
+            Wrong::SecondRoot => {
+                let v = other(n, root, random);
+                once(v, v)
+            }
+            Wrong::LoopOfTwo => loop_of_two(n, root, random),
+            Wrong::LoopOfMany => {
+                let v = other(n, root, random);
+                once(sheet.up(v, sheet.level(v).saturating_sub(1)), v)
+            }
+        }
     }
 }
 
 // A number that is no part of n: half the time n itself.
-pub fn off(n: usize, log: &mut [usize]) -> usize {
-    if below(2, log) == 0 {
+pub fn off(n: usize, random: &mut Random) -> usize {
+    if random.below(2) == 0 {
         return n;
     }
-    plus(n, below(minus(65536, n), log))
+    n.saturating_add(random.below(65536usize.saturating_sub(n)))
 }
 
-// A part other than the root.
-fn other(n: usize, root: usize, log: &mut [usize]) -> usize {
-    rest(plus(root, plus(1, below(minus(n, 1), log))), n)
+// The number that comes so many after i, with 0 behind n - 1.
+fn turned(i: usize, by: usize, n: usize) -> usize {
+    i.saturating_add(by).checked_rem(n).unwrap_or(0)
 }
 
-// Two parts off the sheet.
-fn two_off(n: usize, log: &mut [usize]) -> Cells {
-    let a = below(n, log);
-    let x = off(n, log);
-    let b = below(n, log);
-    let y = off(n, log);
-    Cells { a, x, b, y }
+// Another of the numbers below n than i.
+fn other(n: usize, i: usize, random: &mut Random) -> usize {
+    let by = random.below(n.saturating_sub(1)).saturating_add(1);
+    turned(i, by, n)
 }
 
-// A part that names itself, beside the root.
-fn second_root(n: usize, root: usize, log: &mut [usize]) -> Cells {
-    let v = other(n, root, log);
-    once(v, v)
+// Two of so many cells, at random, each with what `value` gives it.
+fn two<F: Fn(usize, &mut Random) -> usize + Drop>(
+    many: usize,
+    random: &mut Random,
+    value: F,
+) -> Cells
+    requires { F.IsAlwaysCallable value }
+{
+    let a = random.below(many);
+    let x = value(a, random);
+    let b = random.below(many);
+    let y = value(b, random);
+    [(a, cell(x)), (b, cell(y))]
 }
 
 // Two parts other than the root, bolted into each other.
-fn loop_of_two(n: usize, root: usize, log: &mut [usize]) -> Cells {
-    let m = minus(n, 1);
-    let i = below(m, log);
-    let j = rest(plus(i, plus(1, below(minus(m, 1), log))), m);
-    let a = rest(plus(root, plus(1, i)), n);
-    let b = rest(plus(root, plus(1, j)), n);
-    Cells { a, x: b, b, y: a }
+fn loop_of_two(n: usize, root: usize, random: &mut Random) -> Cells {
+    let m = n.saturating_sub(1);
+    let i = random.below(m);
+    let j = other(m, i, random);
+    let a = turned(root, i.saturating_add(1), n);
+    let b = turned(root, j.saturating_add(1), n);
+    [(a, cell(b)), (b, cell(a))]
 }
 
-// A part next to the root, bolted into one that it carries.
-fn loop_of_many(n: usize, root: usize, sheet: &[u16], log: &mut [usize]) -> Cells {
-    let v = other(n, root, log);
-    let top = up(sheet, v, minus(level(sheet, n, v), 1));
-    once(top, v)
+// Which cells of the tables are stale: one of a table, or two of any, or one twice.
+#[derive(Clone, Copy)]
+pub enum Stale {
+    Label,
+    Tour,
+    Lift,
+    Order,
+    Two,
 }
 
-// The cells of the tables, end to end, that a case changes: 25 to 28 one of the label, tour, lift or order table, 29 and 34 to 36 two of any, or one
-// twice. In any other case the place is past all of them.
-pub fn table_cells(case: usize, n: usize, own: &[u16], log: &mut [usize]) -> Cells {
-    let l = times(6, n);
-    let t = plus(l, fit::tour(n));
-    let f = plus(t, fit::lift(n));
-    match case {
-        25 => spoiled(below(l, log), own, log),
-        26 => spoiled(plus(l, below(fit::tour(n), log)), own, log),
-        27 => spoiled(plus(t, below(fit::lift(n), log)), own, log),
-        28 => spoiled(plus(f, below(n, log)), own, log),
-        29 | 34 | 35 | 36 => two_spoiled(fit::tables(n), own, log),
-        _ => once(fit::NONE, 0),
+impl Stale {
+    pub const ALL: [Stale; 5] = [
+        Stale::Label,
+        Stale::Tour,
+        Stale::Lift,
+        Stale::Order,
+        Stale::Two,
+    ];
+
+    // The cells that make a sheet's own tables stale, end to end.
+    pub fn cells(self, n: usize, own: &[u16], random: &mut Random) -> Cells {
+        let tour = fit::label(n);
+        let lift = tour.saturating_add(fit::tour(n));
+        let order = lift.saturating_add(fit::lift(n));
+        match self {
+            Stale::Label => spoiled(0, tour, own, random),
+            Stale::Tour => spoiled(tour, fit::tour(n), own, random),
+            Stale::Lift => spoiled(lift, fit::lift(n), own, random),
+            Stale::Order => spoiled(order, n, own, random),
+            Stale::Two => two(
+                fit::tables(n),
+                random,
+                |at, random| another(at, own, random),
+            ),
+        }
     }
 }
 
-// Another number in a cell.
-fn spoiled(at: usize, own: &[u16], log: &mut [usize]) -> Cells {
-    once(at, another(get(own, at), log))
+// Another number in one of so many cells from a place on.
+fn spoiled(from: usize, many: usize, own: &[u16], random: &mut Random) -> Cells {
+    let at = from.saturating_add(random.below(many));
+    once(at, another(at, own, random))
 }
 
-// Other numbers in two of so many cells.
-fn two_spoiled(many: usize, own: &[u16], log: &mut [usize]) -> Cells {
-    let a = below(many, log);
-    let x = another(get(own, a), log);
-    let b = below(many, log);
-    let y = another(get(own, b), log);
-    Cells { a, x, b, y }
-}
-
-// Another number than x.
-fn another(x: usize, log: &mut [usize]) -> usize {
-    rest(plus(x, plus(1, below(65535, log))), 65536)
+// Another number than a cell holds.
+fn another(at: usize, own: &[u16], random: &mut Random) -> usize {
+    let x = own.get(at).map_or(0, |x| usize::from(*x));
+    other(65536, x, random)
 }

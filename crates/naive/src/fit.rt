@@ -1,129 +1,136 @@
-// The exact lengths of the buffers. `lent` has the cells that are lent of each, by its number: 0 the sheet, 1 label, 2 tour, 3 lift,
-// 4 work, 5 question, 6 answer, 7 trail, 8 order. The calls: 0 check, 1 build, 2 compare, 3 pairs by labels, 4 by the tour, 5 by lifts, 6 trail,
-// 7 list.
+// The exact lengths of the buffers, and how many cells are lent of each.
 
-use crate::buffer::{number, set};
-use crate::number::{log, minus, plus, times};
+use crate::call::{BUFFERS, Buffer, Call};
 
-// A place past all tables.
-pub const NONE: usize = 1000000;
+// The logarithm to base 2, rounded down; 0 of 0.
+pub fn log(m: usize) -> usize {
+    m.checked_ilog2().map_or(0, |k| k as usize)
+}
+
+// Two to the power k.
+pub fn power(k: usize) -> usize {
+    1usize.wrapping_shl((k % 64) as u32)
+}
+
+// The cells of the label table of n parts.
+pub fn label(n: usize) -> usize {
+    n.saturating_mul(6)
+}
 
 // The positions of the tour of n parts.
 pub fn visits(n: usize) -> usize {
-    minus(times(2, n), 1)
+    n.saturating_mul(2).saturating_sub(1)
 }
 
 // The cells of the tour table of n parts: the tour, the first positions, and t + 1 rows.
 pub fn tour(n: usize) -> usize {
     let m = visits(n);
-    plus(plus(m, n), times(m, plus(log(m), 1)))
+    let rows = log(m).saturating_add(1);
+    m.saturating_add(n).saturating_add(m.saturating_mul(rows))
 }
 
 // The cells of the lift table of n parts.
 pub fn lift(n: usize) -> usize {
-    times(n, plus(log(n), 1))
+    n.saturating_mul(log(n).saturating_add(1))
 }
 
 // The cells of the four tables of n parts.
 pub fn tables(n: usize) -> usize {
-    plus(plus(times(6, n), tour(n)), plus(lift(n), n))
+    label(n)
+        .saturating_add(tour(n))
+        .saturating_add(lift(n))
+        .saturating_add(n)
 }
 
-// Whether a call asks pairs.
-fn asks_pairs(call: usize) -> bool {
-    if call < 3 {
-        return false;
-    }
-    call < 6
+// How many cells are lent of each buffer.
+#[derive(Clone, Copy)]
+pub struct Lent {
+    pub sheet: usize,
+    pub label: usize,
+    pub tour: usize,
+    pub lift: usize,
+    pub work: usize,
+    pub question: usize,
+    pub answer: usize,
+    pub trail: usize,
+    pub order: usize,
 }
 
-// The cells of a question that lists `count` pairs or parts.
-fn question(call: usize, count: usize) -> usize {
-    if asks_pairs(call) {
-        return times(2, count);
+impl Lent {
+    // The exact cells for a sheet of n parts and a question of `count` pairs or parts.
+    pub fn all(call: Call, n: usize, count: usize) -> Lent {
+        let each = if call.asks_pairs() { 2 } else { 1 };
+        Lent::exact(call, n, count.saturating_mul(each))
     }
-    if call == 6 {
-        return 2;
-    }
-    count
-}
 
-// The exact cells of a question that has `cells`: an even count for pairs, two for a trail, any for a list.
-fn fit_question(call: usize, cells: usize) -> usize {
-    if asks_pairs(call) {
-        return times(2, cells / 2);
-    }
-    if call == 6 {
-        return 2;
-    }
-    cells
-}
-
-// The exact cells of the answer to a question that has `cells`: three for each pair, or one.
-fn answer(call: usize, cells: usize) -> usize {
-    if asks_pairs(call) {
-        return times(3, cells / 2);
-    }
-    1
-}
-
-// The exact cells of a buffer, from the sheet's and the question's.
-fn exact(call: usize, buffer: usize, lent: &[usize]) -> usize {
-    let n = number(lent, 0);
-    let cells = number(lent, 5);
-    match buffer {
-        1 => times(6, n),
-        2 => tour(n),
-        3 => lift(n),
-        4 => times(4, n),
-        5 => fit_question(call, cells),
-        6 => answer(call, cells),
-        7 => 64,
-        _ => n,
-    }
-}
-
-// Whether a call is lent a buffer.
-pub fn has(call: usize, buffer: usize) -> bool {
-    if buffer == 8 {
-        return 0 < call;
-    }
-    match call {
-        0 => buffer == 4,
-        1 | 2 => buffer <= 4,
-        6 => buffer <= 7,
-        _ => buffer <= 6,
-    }
-}
-
-// Whether a call is lent a buffer that has not its exact length.
-fn is_unfit(call: usize, buffer: usize, lent: &[usize]) -> bool {
-    if has(call, buffer) {
-        return number(lent, buffer) != exact(call, buffer, lent);
-    }
-    false
-}
-
-// The lowest buffer of a call that has not its exact length, or 0.
-pub fn unfit(call: usize, lent: &[usize]) -> usize {
-    let mut buffer = 1;
-    while buffer < 9 {
-        if is_unfit(call, buffer, lent) {
-            return buffer;
+    // The exact cells for a sheet of n parts and a question that has `cells`: an even count for pairs, two for a trail, any for a list. The answer has three
+    // cells for each pair, or one.
+    fn exact(call: Call, n: usize, cells: usize) -> Lent {
+        let pairs = cells / 2;
+        let (question, answer) = match call {
+            Call::Labels | Call::Tour | Call::Lifts => (pairs * 2, pairs.saturating_mul(3)),
+            Call::Trail => (2, 1),
+            _ => (cells, 1),
+        };
+        Lent {
+            sheet: n,
+            label: label(n),
+            tour: tour(n),
+            lift: lift(n),
+            work: n.saturating_mul(4),
+            question,
+            answer,
+            trail: 64,
+            order: n,
         }
-        buffer += 1;
     }
-    0
-}
 
-// Lends the exact cells for a sheet of n parts and a question of `count` pairs or parts.
-pub fn all(call: usize, n: usize, count: usize, lent: &mut [usize]) {
-    set(lent, 0, n);
-    set(lent, 5, question(call, count));
-    let mut buffer = 1;
-    while buffer < 9 {
-        let cells = exact(call, buffer, lent);
-        set(lent, buffer, cells);
-        buffer += 1;
+    // How many cells are lent of a buffer.
+    fn of(self, buffer: Buffer) -> usize {
+        match buffer {
+            Buffer::Sheet => self.sheet,
+            Buffer::Label => self.label,
+            Buffer::Tour => self.tour,
+            Buffer::Lift => self.lift,
+            Buffer::Work => self.work,
+            Buffer::Question => self.question,
+            Buffer::Answer => self.answer,
+            Buffer::Trail => self.trail,
+            Buffer::Order => self.order,
+        }
+    }
+
+    // The same, to be changed.
+    fn of_mut(&mut self, buffer: Buffer) -> &mut usize {
+        match buffer {
+            Buffer::Sheet => &mut self.sheet,
+            Buffer::Label => &mut self.label,
+            Buffer::Tour => &mut self.tour,
+            Buffer::Lift => &mut self.lift,
+            Buffer::Work => &mut self.work,
+            Buffer::Question => &mut self.question,
+            Buffer::Answer => &mut self.answer,
+            Buffer::Trail => &mut self.trail,
+            Buffer::Order => &mut self.order,
+        }
+    }
+
+    // Lends a cell less of a buffer.
+    pub fn shorten(&mut self, buffer: Buffer) {
+        let cells = self.of_mut(buffer);
+        *cells = cells.saturating_sub(1);
+    }
+
+    // Lends a cell more of a buffer.
+    pub fn lengthen(&mut self, buffer: Buffer) {
+        let cells = self.of_mut(buffer);
+        *cells = cells.saturating_add(1);
+    }
+
+    // The lowest buffer of a call that has not its exact length.
+    pub fn first_unfit(self, call: Call) -> Option<Buffer> {
+        let exact = Lent::exact(call, self.sheet, self.question);
+        BUFFERS.into_iter().find(|buffer| call.is_lent(*buffer)
+            && self.of(*buffer) != exact.of(*buffer))
     }
 }

@@ -1,77 +1,104 @@
 // Holding one call: its buffers are filled with junk, what it is to answer is worked out by the plain tests, the call is made, and its answer and
 // every cell that it may write are held against the model. A call that is lent tables to read is lent the sheet's own by the model, and a table
-// that is built is held against them.
+// that is built is held against them. A refused call leaves its buffers as they were, and work zero from refusal 4 on; an accepted one leaves work zero,
+// and fills what it was lent to fill with what the model says.
 
-use crate::buffer::{fill_junk, get, number};
-use crate::lend::lend;
-use crate::tally::stopped;
-use crate::tests::{Said, verdict};
-use crate::{after, build, large};
+use crate::call::{Buffer, Call};
+use crate::climb::Sheet;
+use crate::fit::Lent;
+use crate::lend::{Outputs, Tables, cut, cut_mut};
+use crate::log::{Log, Point};
+use crate::tests::{Refused, Said, Verdict};
+use crate::{answers, build, calls, tests};
 
-// Holds one call on a sheet of n parts, of which the plain tests 4 to 7 say `tree`, with tables that are first stale at cell `stale`, if they are.
-// It gives the answer's first cell. Nothing is held after a disagreement.
-pub fn hold(
-    call: usize,
-    n: usize,
-    tree: Said,
-    stale: usize,
-    sheet: &[u16],
-    own: &[u16],
-    question: &[u16],
-    lent: &[usize],
-    log: &mut [usize],
-) -> usize {
-    if stopped(log) {
-        return 0;
-    }
-    let want = verdict(call, tree, stale, question, lent);
-    if call == 1 {
-        build::hold(n, want, sheet, own, lent, log);
-        return 0;
-    }
-    let mut work = large::work();
-    let mut answer = large::answer();
-    let mut rows = large::rows();
-    in_buffers(
-        call,
-        n,
-        want,
-        sheet,
-        own,
-        question,
-        lent,
-        &mut work,
-        &mut answer,
-        &mut rows,
-        log,
-    )
+// The most cells of work, of an answer and of a trail, and one more.
+pub const WORK: usize = 65537;
+
+const ANSWER: usize = 901;
+
+const ROWS: usize = 65;
+
+// A sheet that calls are held on: its entries, with a cell more; what the plain tests 4 to 7 say of it; its own tables, end to end, and the first cell of
+// them that is stale, if one is.
+#[derive(Clone, Copy)]
+pub struct Held<'a> {
+    pub sheet: Sheet<'a>,
+    pub tree: Verdict,
+    pub own: &'a [u16],
+    pub stale: Option<usize>,
 }
 
-// Holds a call that builds nothing.
-fn in_buffers(
-    call: usize,
-    n: usize,
-    want: Said,
-    sheet: &[u16],
-    own: &[u16],
-    question: &[u16],
-    lent: &[usize],
-    work: &mut [u16],
-    answer: &mut [u16],
-    rows: &mut [u16],
-    log: &mut [usize],
-) -> usize {
-    before(lent, work, answer, rows);
-    let came = lend(call, n, sheet, own, question, lent, work, answer, rows);
-    after::call(
-        call, want, came, sheet, question, lent, work, answer, rows, log,
-    );
-    get(answer, 0)
+// Holds one call. It gives the answer's first cell. Nothing is held after a disagreement.
+pub fn hold(call: Call, held: Held, question: &[u16], lent: Lent, log: &mut Log) -> usize {
+    let mut work = [0; WORK];
+    let mut answer = [0; ANSWER];
+    let mut rows = [0; ROWS];
+    if log.is_stopped() {
+        return 0;
+    }
+    let question = cut(question, lent.question);
+    let want = tests::verdict(call, held, question, lent);
+    let mut outputs = Outputs {
+        work: cut_mut(&mut work, lent.work),
+        answer: cut_mut(&mut answer, lent.answer),
+        rows: cut_mut(&mut rows, lent.trail),
+    };
+    outputs.fill();
+    if call == Call::Build {
+        build::hold(want, held, lent, outputs.work, log);
+        return 0;
+    }
+    let came = calls::make(call, Tables::lent(held, lent), question, &mut outputs);
+    after(call, want, came, held.sheet, question, &outputs, log);
+    usize::from(outputs.answer.first().copied().unwrap_or(0))
 }
 
-// Fills what a call may write with junk.
-fn before(lent: &[usize], work: &mut [u16], answer: &mut [u16], rows: &mut [u16]) {
-    fill_junk(work, number(lent, 4));
-    fill_junk(answer, number(lent, 6));
-    fill_junk(rows, number(lent, 7));
+// Holds what a call answered, and its buffers, against what it was to answer.
+fn after(
+    call: Call,
+    want: Verdict,
+    came: Said,
+    sheet: Sheet,
+    question: &[u16],
+    outputs: &Outputs,
+    log: &mut Log,
+) {
+    same(call, want, came, log);
+    held_work(call, want, outputs.work, log);
+    if want.is_err() {
+        log.kept(call, Buffer::Answer, outputs.answer);
+        log.kept(call, Buffer::Trail, outputs.rows);
+        log.refusals = log.refusals.saturating_add(1);
+        return;
+    }
+    let answer = &*outputs.answer;
+    let rows = &*outputs.rows;
+    match call {
+        Call::Check | Call::Build | Call::Compare => {}
+        Call::Labels | Call::Tour | Call::Lifts => answers::pairs(
+            call, sheet, question, answer, log,
+        ),
+        Call::Trail => answers::trail(came.unwrap_or(0), sheet, question, answer, rows, log),
+        Call::List => answers::list(sheet, question, answer, log),
+    }
+}
+
+// Holds the number and the place of a refusal; both are 0 where there is none.
+pub fn same(call: Call, want: Verdict, came: Said, log: &mut Log) {
+    const NONE: Refused = Refused {
+        number: 0,
+        place: 0,
+    };
+    let want = want.err().unwrap_or(NONE);
+    let came = came.err().unwrap_or(NONE);
+    log.agree(Some(call), Point::Number, want.number, came.number);
+    log.agree(Some(call), Point::Place, want.place, came.place);
+}
+
+// Work is all zero, or as it was after refusals 1 to 3.
+pub fn held_work(call: Call, want: Verdict, work: &[u16], log: &mut Log) {
+    match want {
+        Err(Refused { number: 1..=3, .. }) => log.kept(call, Buffer::Work, work),
+        _ => log.zero(call, Buffer::Work, work),
+    }
 }

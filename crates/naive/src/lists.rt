@@ -1,219 +1,92 @@
 // Asking lists: a random list, the same in other orders and with repeats, and shared out into groups.
 
-use crate::buffer::{get, put};
-use crate::climb::fold;
-use crate::hold::hold;
-use crate::number::{minus, plus, rest, times};
-use crate::tally::agree;
-use crate::tests::Said;
-use crate::{ask, fit, tally};
+use crate::ask;
+use crate::call::Call;
+use crate::fit::Lent;
+use crate::hold::{Held, hold};
+use crate::junk::cell;
+use crate::log::{Log, Point};
+use arrayvec::ArrayVec;
+
+// The most parts of a list.
+const MOST: usize = 20;
+
+// A list, or a part of one.
+type List = ArrayVec<u16, MOST>;
 
 // How many lists are asked of a sheet of n parts.
 fn lists_of(n: usize) -> usize {
-    if n < 1000 {
-        return 10;
-    }
-    5
+    if n < 1000 { 10 } else { 5 }
 }
 
 // Asks random lists.
-pub fn all(n: usize, tree: Said, sheet: &[u16], own: &[u16], log: &mut [usize]) {
-    let many = lists_of(n);
-    let mut i = 0;
-    while i < many {
-        one(n, tree, sheet, own, log);
-        i += 1;
+pub fn all(held: Held, log: &mut Log) {
+    for _ in 0..lists_of(held.sheet.n) {
+        one(held, log);
     }
 }
 
 // Makes a random list of 1 to 20 parts, and asks it.
-fn one(n: usize, tree: Said, sheet: &[u16], own: &[u16], log: &mut [usize]) {
-    let mut list = [0u16; 20];
-    let m = plus(1, tally::below(20, log));
-    ask::list_parts(m, n, &mut list, log);
-    let carrier = fold(sheet, n, &list, m);
-    orders(n, m, carrier, tree, sheet, own, &list, log);
-    share(n, m, carrier, tree, sheet, own, &list, log);
-    tally::count(8, 1, log);
+fn one(held: Held, log: &mut Log) {
+    let mut parts = [0; MOST];
+    let count = log.random.below(MOST).saturating_add(1).min(MOST);
+    let list = &mut parts[..count];
+    ask::fill(held.sheet.n, list, &mut log.random);
+    let carrier = held.sheet.carrier_of(list);
+    orders(held, carrier, list, log);
+    share(held, carrier, list, log);
+    log.lists = log.lists.saturating_add(1);
 }
 
-// Asks a list of m parts, and gives its carrier.
-fn ask_list(
-    n: usize,
-    m: usize,
-    tree: Said,
-    sheet: &[u16],
-    own: &[u16],
-    list: &[u16],
-    log: &mut [usize],
-) -> usize {
-    let mut lent = [0usize; 9];
-    fit::all(7, n, m, &mut lent);
-    hold(7, n, tree, fit::NONE, sheet, own, list, &lent, log)
+// Asks a list, and gives its carrier.
+fn ask_list(held: Held, list: &[u16], log: &mut Log) -> usize {
+    let lent = Lent::all(Call::List, held.sheet.n, list.len());
+    hold(Call::List, held, list, lent, log)
 }
 
-// Where the part of position i of a question stands in its list of m: in order 1 from the end, else from the start, and again.
-fn place(order: usize, i: usize, m: usize) -> usize {
-    if order == 1 {
-        return minus(m, plus(i, 1));
+// Asks a list, and holds its carrier against that of the whole list.
+fn agree(held: Held, carrier: usize, list: &[u16], log: &mut Log) {
+    let came = ask_list(held, list, log);
+    log.agree(Some(Call::List), Point::WholeList, carrier, came);
+}
+
+// Asks a list as it is, from its end, and twice over.
+fn orders(held: Held, carrier: usize, list: &[u16], log: &mut Log) {
+    let mut reversed = List::new();
+    let mut twice: ArrayVec<u16, 40> = ArrayVec::new();
+    for part in list.iter().rev() {
+        let _ = reversed.try_push(*part);
     }
-    rest(i, m)
+    let _ = twice.try_extend_from_slice(list);
+    let _ = twice.try_extend_from_slice(list);
+    agree(held, carrier, list, log);
+    agree(held, carrier, reversed.as_slice(), log);
+    agree(held, carrier, twice.as_slice(), log);
 }
 
-// How many parts of a list of m are listed: in order 2 each twice.
-fn listed(order: usize, m: usize) -> usize {
-    if order == 2 {
-        return times(2, m);
+// Shares a list out into groups at random, asks each that is not empty, and then the list of their carriers.
+fn share(held: Held, carrier: usize, list: &[u16], log: &mut Log) {
+    let mut numbers = [0; MOST];
+    let mut carriers = List::new();
+    let groups = log.random.below(list.len()).saturating_add(1);
+    let numbers = &mut numbers[..list.len().min(MOST)];
+    ask::fill(groups, numbers, &mut log.random);
+    for g in 0..groups {
+        let group = gather(cell(g), list, numbers);
+        if !group.is_empty() {
+            let _ = carriers.try_push(cell(ask_list(held, group.as_slice(), log)));
+        }
     }
-    m
+    agree(held, carrier, carriers.as_slice(), log);
 }
 
-// Lists the parts of a list in an order.
-fn list_in_order(order: usize, m: usize, list: &[u16], question: &mut [u16]) {
-    let count = listed(order, m);
-    let mut i = 0;
-    while i < count {
-        put(question, i, get(list, place(order, i, m)));
-        i += 1;
+// Lists the parts of one group.
+fn gather(g: u16, list: &[u16], numbers: &[u16]) -> List {
+    let mut group = List::new();
+    for (part, number) in list.iter().zip(numbers) {
+        if *number == g {
+            let _ = group.try_push(*part);
+        }
     }
-}
-
-// Asks a list in each order.
-fn orders(
-    n: usize,
-    m: usize,
-    carrier: usize,
-    tree: Said,
-    sheet: &[u16],
-    own: &[u16],
-    list: &[u16],
-    log: &mut [usize],
-) {
-    let mut order = 0;
-    while order < 3 {
-        in_order(order, n, m, carrier, tree, sheet, own, list, log);
-        order += 1;
-    }
-}
-
-// Asks a list in an order.
-fn in_order(
-    order: usize,
-    n: usize,
-    m: usize,
-    carrier: usize,
-    tree: Said,
-    sheet: &[u16],
-    own: &[u16],
-    list: &[u16],
-    log: &mut [usize],
-) {
-    let mut question = [0u16; 40];
-    list_in_order(order, m, list, &mut question);
-    let came = ask_list(n, listed(order, m), tree, sheet, own, &question, log);
-    agree(7, 13, order, carrier, came, log);
-}
-
-// Shares a list out into groups at random, asks each, and then the list of their carriers.
-fn share(
-    n: usize,
-    m: usize,
-    carrier: usize,
-    tree: Said,
-    sheet: &[u16],
-    own: &[u16],
-    list: &[u16],
-    log: &mut [usize],
-) {
-    let mut group = [0u16; 20];
-    let mut carriers = [0u16; 20];
-    let groups = plus(1, tally::below(m, log));
-    ask::list_parts(m, groups, &mut group, log);
-    let asked = ask_groups(
-        n,
-        m,
-        groups,
-        tree,
-        sheet,
-        own,
-        list,
-        &group,
-        &mut carriers,
-        log,
-    );
-    let came = ask_list(n, asked, tree, sheet, own, &carriers, log);
-    agree(7, 13, 3, carrier, came, log);
-}
-
-// Asks each group, puts the carriers of those that are not empty, and says how many there are.
-fn ask_groups(
-    n: usize,
-    m: usize,
-    groups: usize,
-    tree: Said,
-    sheet: &[u16],
-    own: &[u16],
-    list: &[u16],
-    group: &[u16],
-    carriers: &mut [u16],
-    log: &mut [usize],
-) -> usize {
-    let mut asked = 0;
-    let mut g = 0;
-    while g < groups {
-        asked = ask_group(g, n, m, asked, tree, sheet, own, list, group, carriers, log);
-        g += 1;
-    }
-    asked
-}
-
-// Asks one group, if it is not empty, puts its carrier after those before it, and says how many there are then.
-fn ask_group(
-    g: usize,
-    n: usize,
-    m: usize,
-    before: usize,
-    tree: Said,
-    sheet: &[u16],
-    own: &[u16],
-    list: &[u16],
-    group: &[u16],
-    carriers: &mut [u16],
-    log: &mut [usize],
-) -> usize {
-    let mut question = [0u16; 20];
-    let count = gather(g, m, list, group, &mut question);
-    if count == 0 {
-        return before;
-    }
-    let carrier = ask_list(n, count, tree, sheet, own, &question, log);
-    put(carriers, before, carrier);
-    plus(before, 1)
-}
-
-// Lists the parts of one group, and says how many there are.
-fn gather(g: usize, m: usize, list: &[u16], group: &[u16], question: &mut [u16]) -> usize {
-    let mut count = 0;
-    let mut i = 0;
-    while i < m {
-        count = gather_one(g, i, count, list, group, question);
-        i += 1;
-    }
-    count
-}
-
-// Lists part i of a list after those before it, if it is of the group, and says how many there are then.
-fn gather_one(
-    g: usize,
-    i: usize,
-    before: usize,
-    list: &[u16],
-    group: &[u16],
-    question: &mut [u16],
-) -> usize {
-    if get(group, i) != g {
-        return before;
-    }
-    put(question, before, get(list, i));
-    plus(before, 1)
+    group
 }

@@ -5,38 +5,55 @@
 
 #![tactic(auto)]
 
-mod after;
+ghost use Rattle.std.specs.Prelude.{◌≡◌, length};
+
 mod answers;
 mod ask;
-mod buffer;
 mod build;
+mod call;
 mod calls;
+mod cases;
 mod climb;
 mod columns;
 mod damage;
 mod fit;
 mod hold;
-mod large;
+mod junk;
 mod lend;
 mod lists;
-mod number;
+mod log;
 mod own;
-mod print;
 mod refuse;
 mod shape;
 mod sheets;
-mod tally;
 mod tests;
 mod trail;
 mod walk;
 
-// Lends the sheet, its own tables and the log to all that is held, and prints the summary, unless there was a disagreement.
-fn main() {
-    let mut sheet = large::sheet();
-    let mut own = large::own();
-    let mut log = [0usize; 11];
+use log::Log;
+use std::io::Print;
+use std::process::ExitCode;
+
+// The cells of a sheet of one part more than a sheet may have, and of the four tables of the largest sheet, end to end, and one more.
+const SHEET: usize = 16385;
+
+const OWN: usize = 901105;
+
+// Cells that are all 0. The largest are made by a function, since a proof that is about such cells one by one runs out of stack.
+fn zeros<const N: usize>() -> [u16; N]
+    ensures { N ≡ length result }
+{
+    [0; N]
+}
+
+// Lends the sheet, its own tables and the log to all that is held, and prints the log: the summary, or the disagreement.
+fn main(rt: HostRuntime) -> ExitCode {
+    let mut sheet = zeros::<SHEET>();
+    let mut own = zeros::<OWN>();
+    let mut log = Log::new();
     sheets::all(&mut sheet, &mut own, &mut log);
-    if !tally::stopped(&log) {
-        print::summary(&log);
+    match print!(rt; "{log}") {
+        Ok(()) => ExitCode::SUCCESS,
+        Err(_) => ExitCode::FAILURE,
     }
 }

@@ -1,81 +1,76 @@
 // The sheets that are held, and what is held of each.
 
-use crate::hold::hold;
-use crate::number::{minus, plus, power};
-use crate::tests::Said;
-use crate::{ask, fit, large, lists, own, refuse, shape, tally, tests};
+use crate::call::{Buffer, Call};
+use crate::climb::Sheet;
+use crate::fit::Lent;
+use crate::hold::{Held, WORK, hold};
+use crate::log::{Log, Point};
+use crate::refuse::Tree;
+use crate::shape::{Kind, Shape};
+use crate::tests::Verdict;
+use crate::{ask, lists, own, refuse, tests};
 
-// How many sheets there are: 12 shapes of 26 sizes, and two of 16,384 parts.
-const SHEETS: usize = 314;
+// The sizes of sheets of every shape: 1, 2, and for each power of two from 4 to 512 one less, itself and one more.
+const SIZES: [usize; 26] = [
+    1, 2, 3, 4, 5, 7, 8, 9, 15, 16, 17, 31, 32, 33, 63, 64, 65, 127, 128, 129, 255, 256, 257, 511,
+    512, 513,
+];
 
-// The shape of sheet i; the last two are a chain and a random sheet whose numbers are permuted.
-fn shape_of(i: usize) -> usize {
-    match i {
-        312 => 0,
-        313 => 10,
-        _ => i % 12,
+// The parts of a sheet of the largest size.
+const LARGEST: usize = 16384;
+
+// Holds sheets of every shape and size, and two of the largest: a chain, and a random one whose numbers are permuted.
+pub fn all(sheet: &mut [u16], own: &mut [u16], log: &mut Log) {
+    for n in SIZES {
+        for permuted in [false, true] {
+            for kind in Shape::KINDS {
+                one(Shape { kind, permuted }, n, sheet, own, log);
+            }
+        }
     }
+    let permuted = true;
+    let kind = Kind::Random;
+    one(Shape::FIRST, LARGEST, sheet, own, log);
+    one(Shape { kind, permuted }, LARGEST, sheet, own, log);
 }
 
-// The size of sheet i: 1, 2, and for each power of two from 4 to 512 one less, itself and one more; 16,384 of the last two.
-fn size_of(i: usize) -> usize {
-    if 311 < i {
-        return 16384;
-    }
-    let k = i / 12;
-    if k < 2 {
-        return k + 1;
-    }
-    let j = k - 2;
-    minus(plus(power(2 + j / 3), j % 3), 1)
-}
-
-// Holds every sheet.
-pub fn all(sheet: &mut [u16], own: &mut [u16], log: &mut [usize]) {
-    let mut i = 0;
-    while i < SHEETS {
-        one(i, sheet, own, log);
-        i += 1;
-    }
-}
-
-// Makes sheet i and its own tables, and holds the calls on it, unless there was a disagreement before.
-fn one(i: usize, sheet: &mut [u16], own: &mut [u16], log: &mut [usize]) {
-    if tally::stopped(log) {
+// Makes a sheet and its own tables, and holds the calls on it, unless there was a disagreement before.
+fn one(shape: Shape, n: usize, sheet: &mut [u16], own: &mut [u16], log: &mut Log) {
+    if log.is_stopped() {
         return;
     }
-    let n = size_of(i);
-    let tree = made(i, n, sheet, own, log);
-    accepted(n, tree, sheet, own, log);
-    refuse::all(n, tree, sheet, own, log);
+    log.begin(shape, n);
+    let tree = made(shape, n, sheet, own, log);
+    let held = Held {
+        sheet: Sheet { cells: sheet, n },
+        tree,
+        own,
+        stale: None,
+    };
+    accepted(held, log);
+    refuse::all(&mut Tree { n, sheet, own }, log);
 }
 
-// Holds the calls that are accepted.
-fn accepted(n: usize, tree: Said, sheet: &[u16], own: &[u16], log: &mut [usize]) {
-    tables(n, tree, sheet, own, log);
-    ask::pairs(n, tree, sheet, own, log);
-    ask::trails(n, tree, sheet, own, log);
-    lists::all(n, tree, sheet, own, log);
-}
-
-// Makes sheet i and its own tables, and gives what the plain tests 4 to 7 say of it: that it is a tree.
-fn made(i: usize, n: usize, sheet: &mut [u16], own: &mut [u16], log: &mut [usize]) -> Said {
-    let mut work = large::work();
-    let shape = shape_of(i);
-    tally::begin(shape, n, plus(i, 1), log);
-    shape::make(shape, n, sheet, &mut work, log);
-    own::tables(n, sheet, &mut work, own);
-    let tree = tests::tree(sheet, n);
-    tally::agree(8, 0, tree.place, 0, tree.number, log);
-    tally::count(4, 1, log);
+// Makes a sheet and its own tables, and gives what the plain tests 4 to 7 say of it: that it is a tree.
+fn made(shape: Shape, n: usize, cells: &mut [u16], own: &mut [u16], log: &mut Log) -> Verdict {
+    let mut work = [0; WORK];
+    let entries = n.min(cells.len());
+    shape.make(&mut cells[..entries], &mut work, &mut log.random);
+    let sheet = Sheet { cells, n };
+    let _ = own::tables(sheet, &mut work, own);
+    let tree = tests::tree(sheet);
+    if let Err(why) = tree {
+        log.agree(None, Point::Cell(Buffer::Sheet, why.place), 0, why.number);
+    }
     tree
 }
 
-// Checks the sheet, builds its tables and compares them.
-fn tables(n: usize, tree: Said, sheet: &[u16], own: &[u16], log: &mut [usize]) {
-    let mut lent = [0usize; 9];
-    fit::all(0, n, 0, &mut lent);
-    hold(0, n, tree, fit::NONE, sheet, own, &[], &lent, log);
-    hold(1, n, tree, fit::NONE, sheet, own, &[], &lent, log);
-    hold(2, n, tree, fit::NONE, sheet, own, &[], &lent, log);
+// Holds the calls that are accepted.
+fn accepted(held: Held, log: &mut Log) {
+    for call in [Call::Check, Call::Build, Call::Compare] {
+        hold(call, held, &[], Lent::all(call, held.sheet.n, 0), log);
+    }
+    ask::pairs(held, log);
+    ask::trails(held, log);
+    lists::all(held, log);
 }

@@ -1,132 +1,80 @@
 // The plain tests: document 01's table of numbers, test after test in its order, each as its row says. Test 11 has no input: a sheet that
 // passes tests 1 to 7 has a root that carries every part.
 
-use crate::buffer::{get, number};
-use crate::climb::up;
-use crate::fit;
-use crate::number::plus;
+use crate::call::{Buffer, Call};
+use crate::climb::Sheet;
+use crate::fit::Lent;
+use crate::hold::Held;
 
-// What a call is to answer, or answered: the number and the place of its refusal, or 0 and 0, and its count of lifts.
+// Why a call is refused: a number of the table, and a place.
 #[derive(Clone, Copy)]
-pub struct Said {
+pub struct Refused {
     pub number: usize,
     pub place: usize,
-    pub lifts: usize,
 }
 
-// A number at a place.
-pub fn at(number: usize, place: usize) -> Said {
-    Said {
-        number,
-        place,
-        lifts: 0,
-    }
+// What a call is to answer, or answered; of a trail, its count of lifts.
+pub type Said = Result<usize, Refused>;
+
+// What tests say.
+pub type Verdict = Result<(), Refused>;
+
+// A refusal with a number, at a place.
+fn refuse(number: usize, place: usize) -> Verdict {
+    Err(Refused { number, place })
 }
 
-// The first of m cells that is n or more, or m.
-fn first_from(cells: &[u16], m: usize, n: usize) -> usize {
-    let mut i = 0;
-    while i < m {
-        if n <= get(cells, i) {
-            return i;
-        }
-        i += 1;
+// Tests 4 to 7, of a sheet.
+pub fn tree(sheet: Sheet) -> Verdict {
+    let Sheet { n, .. } = sheet;
+    if let Some(part) = (0..n).find(|v| n <= sheet.parent(*v)) {
+        return refuse(4, part);
     }
-    m
-}
-
-// The lowest part from `from` on that names itself, or n.
-pub fn next_root(sheet: &[u16], n: usize, from: usize) -> usize {
-    let mut v = from;
-    while v < n {
-        if get(sheet, v) == v {
-            return v;
-        }
-        v += 1;
+    let Some(root) = sheet.root(0) else {
+        return refuse(5, 0);
+    };
+    if let Some(second) = sheet.root(root.saturating_add(1)) {
+        return refuse(6, second);
     }
-    n
-}
-
-// The lowest part that does not meet the root in n steps, or n.
-fn first_lost(sheet: &[u16], n: usize, root: usize) -> usize {
-    let mut v = 0;
-    while v < n {
-        if up(sheet, v, n) != root {
-            return v;
-        }
-        v += 1;
+    // The lowest part that does not meet the root.
+    if let Some(lost) = (0..n).find(|v| !sheet.climb(*v).any(|u| u == root)) {
+        return refuse(7, lost);
     }
-    n
-}
-
-// Tests 4 to 7, of a sheet of n parts.
-pub fn tree(sheet: &[u16], n: usize) -> Said {
-    let off = first_from(sheet, n, n);
-    if off < n {
-        return at(4, off);
-    }
-    let root = next_root(sheet, n, 0);
-    if n <= root {
-        return at(5, 0);
-    }
-    let second = next_root(sheet, n, plus(root, 1));
-    if second < n {
-        return at(6, second);
-    }
-    let lost = first_lost(sheet, n, root);
-    if lost < n {
-        return at(7, lost);
-    }
-    at(0, 0)
+    Ok(())
 }
 
 // Tests 9 and 10, of a call that is lent a question.
-fn listed(question: &[u16], lent: &[usize]) -> Said {
-    let count = number(lent, 5);
-    if count == 0 {
-        return at(9, 0);
+fn listed(question: &[u16], n: usize) -> Verdict {
+    if question.is_empty() {
+        return refuse(9, 0);
     }
-    let place = first_from(question, count, number(lent, 0));
-    if place < count {
-        return at(10, place);
+    match question.iter().position(|part| n <= usize::from(*part)) {
+        Some(place) => refuse(10, place),
+        None => Ok(()),
     }
-    at(0, 0)
 }
 
 // Tests 1 to 3: of the lengths alone.
-fn lengths(call: usize, lent: &[usize]) -> Said {
-    let n = number(lent, 0);
-    if n == 0 {
-        return at(1, 0);
+fn lengths(call: Call, lent: Lent) -> Verdict {
+    if lent.sheet == 0 {
+        return refuse(1, 0);
     }
-    if 16384 < n {
-        return at(2, 0);
+    if 16384 < lent.sheet {
+        return refuse(2, 0);
     }
-    let buffer = fit::unfit(call, lent);
-    if buffer != 0 {
-        return at(3, buffer);
+    match lent.first_unfit(call) {
+        Some(buffer) => refuse(3, buffer as usize),
+        None => Ok(()),
     }
-    at(0, 0)
 }
 
-// All tests of a call: `tree` is what tests 4 to 7 say of its sheet, and `stale` the first cell of its tables, end to end, that is not the sheet's own, if
-// that is a cell of them.
-pub fn verdict(call: usize, tree: Said, stale: usize, question: &[u16], lent: &[usize]) -> Said {
-    let first = lengths(call, lent);
-    if first.number != 0 {
-        return first;
+// All tests of a call on a sheet, of which tests 4 to 7 say `held.tree`, with tables whose first stale cell is `held.stale`.
+pub fn verdict(call: Call, held: Held, question: &[u16], lent: Lent) -> Verdict {
+    lengths(call, lent)?;
+    held.tree?;
+    match held.stale {
+        Some(cell) if call.reads_tables() => refuse(8, cell),
+        _ if call.asks() => listed(question, lent.sheet),
+        _ => Ok(()),
     }
-    if tree.number != 0 {
-        return tree;
-    }
-    if call < 2 {
-        return tree;
-    }
-    if stale < fit::tables(number(lent, 0)) {
-        return at(8, stale);
-    }
-    if call < 3 {
-        return tree;
-    }
-    listed(question, lent)
 }

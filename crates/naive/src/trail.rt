@@ -1,95 +1,93 @@
 // The trail of a pair as document 01 tells it, each lift made by plain steps.
 
-use crate::buffer::{fill, put};
-use crate::climb::{level, up};
-use crate::number::{log, minus, ones, plus, power, times};
+use crate::climb::Sheet;
+use crate::fit::{log, power};
+use crate::junk::cell;
+use arrayvec::ArrayVec;
 
-// Where the two sides stand after a number of lifts.
-#[derive(Clone, Copy)]
-pub struct Sides {
+// The rows of a trail: for each lift, the side of x and then that of y.
+type Rows = ArrayVec<u16, 64>;
+
+// Where the two sides stand, with the rows of the lifts that led there.
+#[derive(Drop)]
+pub struct Sides<'a> {
+    sheet: Sheet<'a>,
     pub x: usize,
-    pub y: usize,
-    pub lifts: usize,
+    y: usize,
+    rows: Rows,
 }
 
-// The trail of x and y in `rows`, with 65535 after it, and where it ends.
-pub fn trail(n: usize, x: usize, y: usize, sheet: &[u16], rows: &mut [u16]) -> Sides {
-    fill(rows, 64, 65535);
-    let start = Sides { x, y, lifts: 0 };
-    let levelled = falling(false, n, start, sheet, rows);
-    if levelled.x == levelled.y {
-        return levelled;
+impl<'a> Sides<'a> {
+    // The trail of x and y: first the deeper side is raised, then, if they are not one part, both.
+    pub fn traced(sheet: Sheet<'a>, x: usize, y: usize) -> Sides<'a> {
+        let rows = Rows::new();
+        let mut sides = Sides { sheet, x, y, rows };
+        for k in (0..=log(sheet.n)).rev() {
+            sides.raise_deeper(power(k));
+        }
+        if sides.x != sides.y {
+            sides.raise_both();
+        }
+        sides
     }
-    let below = falling(true, n, levelled, sheet, rows);
-    lifted(
-        below.lifts,
-        up(sheet, below.x, 1),
-        up(sheet, below.y, 1),
-        rows,
-    )
-}
 
-// One lift more, with its row.
-fn lifted(before: usize, x: usize, y: usize, rows: &mut [u16]) -> Sides {
-    let at = times(2, before);
-    put(rows, at, x);
-    put(rows, plus(at, 1), y);
-    Sides {
-        x,
-        y,
-        lifts: plus(before, 1),
+    // How many lifts were made.
+    pub fn lifts(&self) -> usize {
+        self.rows.len() / 2
     }
-}
 
-// Tries each power of two once, from 2^l down: to raise both sides while they stay different, or only the deeper one.
-fn falling(both: bool, n: usize, start: Sides, sheet: &[u16], rows: &mut [u16]) -> Sides {
-    let mut at = start;
-    let mut steps = power(log(n));
-    while 0 < steps {
-        let next = tried(both, n, steps, at, sheet, rows);
-        at = next;
-        steps = steps / 2;
+    // The rows, and 65535 after them.
+    pub fn into_rows(self) -> Rows {
+        let Sides { mut rows, .. } = self;
+        for _ in rows.len()..64 {
+            let _ = rows.try_push(65535);
+        }
+        rows
     }
-    at
-}
 
-// Tries one power.
-fn tried(both: bool, n: usize, steps: usize, at: Sides, sheet: &[u16], rows: &mut [u16]) -> Sides {
-    if both {
-        return raise_both(steps, at, sheet, rows);
+    // One lift more, with its row.
+    fn lift(&mut self, x: usize, y: usize) {
+        self.x = x;
+        self.y = y;
+        let _ = self.rows.try_push(cell(x));
+        let _ = self.rows.try_push(cell(y));
     }
-    raise_deeper(n, steps, at, sheet, rows)
-}
 
-// Raises the deeper side, if it stays as deep as the other.
-fn raise_deeper(n: usize, steps: usize, at: Sides, sheet: &[u16], rows: &mut [u16]) -> Sides {
-    let a = level(sheet, n, at.x);
-    let b = level(sheet, n, at.y);
-    if plus(b, steps) <= a {
-        return lifted(at.lifts, up(sheet, at.x, steps), at.y, rows);
+    // Raises the deeper side by so many steps, if it stays as deep as the other.
+    fn raise_deeper(&mut self, steps: usize) {
+        let sheet = self.sheet;
+        let x = self.x;
+        let y = self.y;
+        let a = sheet.level(x);
+        let b = sheet.level(y);
+        if b.saturating_add(steps) <= a {
+            self.lift(sheet.up(x, steps), y);
+        } else if a.saturating_add(steps) <= b {
+            self.lift(x, sheet.up(y, steps));
+        }
     }
-    if plus(a, steps) <= b {
-        return lifted(at.lifts, at.x, up(sheet, at.y, steps), rows);
-    }
-    at
-}
 
-// Raises both sides, if they stay different.
-fn raise_both(steps: usize, at: Sides, sheet: &[u16], rows: &mut [u16]) -> Sides {
-    let x = up(sheet, at.x, steps);
-    let y = up(sheet, at.y, steps);
-    if x == y {
-        return at;
+    // Raises both sides by each power of two while they stay different, from 2^l down, and then by one step.
+    fn raise_both(&mut self) {
+        let sheet = self.sheet;
+        for k in (0..=log(sheet.n)).rev() {
+            let x = sheet.up(self.x, power(k));
+            let y = sheet.up(self.y, power(k));
+            if x != y {
+                self.lift(x, y);
+            }
+        }
+        self.lift(sheet.up(self.x, 1), sheet.up(self.y, 1));
     }
-    lifted(at.lifts, x, y, rows)
 }
 
 // The lifts by the formula: ones(g), and if d > 0 ones(d - 1) + 1, for parts at levels a and b with a carrier at level c.
 pub fn lifts(a: usize, b: usize, c: usize) -> usize {
-    let g = plus(minus(a, b), minus(b, a));
-    let d = minus(minus(a, minus(a, b)), c);
-    if d == 0 {
-        return ones(g);
+    let ones = a.abs_diff(b).count_ones() as usize;
+    match a.min(b).saturating_sub(c).checked_sub(1) {
+        Some(d) => ones
+            .saturating_add(d.count_ones() as usize)
+            .saturating_add(1),
+        None => ones,
     }
-    plus(ones(g), plus(ones(minus(d, 1)), 1))
 }

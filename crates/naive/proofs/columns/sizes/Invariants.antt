@@ -1,7 +1,0 @@
--- `naive::columns::sizes` ends, and counts each part once.
--- Assumes nothing.
-use Prim.Native.Nat.{◌-◌}
-use Rattle.naive.proofs.columns.sizes.Given as goal
-
-abbrev pub decreases-loop-v : goal.decreases-loop-v
-decreases-loop-v l = l.n - l.v

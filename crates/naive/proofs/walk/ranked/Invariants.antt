@@ -1,7 +1,0 @@
--- `naive::walk::ranked` ends, and looks at each part once.
--- Assumes nothing.
-use Prim.Native.Nat.{◌-◌}
-use Rattle.naive.proofs.walk.ranked.Given as goal
-
-abbrev pub decreases-loop-v : goal.decreases-loop-v
-decreases-loop-v l = l.n - l.v
