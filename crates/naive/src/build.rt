@@ -5,7 +5,7 @@ ghost use Rattle.std.specs.Prelude.{◌<◌, ◌^◌};
 use crate::call::{Buffer, Call};
 use crate::fit::Lent;
 use crate::hold::{Held, held_work, same};
-use crate::lend::{Buffers, Tables, cut, cut_mut};
+use crate::lend::{Buffers, cut, cut_mut, tables};
 use crate::log::Log;
 use crate::tests::Verdict;
 use crate::{calls, fit};
@@ -49,7 +49,7 @@ fn in_buffers<const LABEL: usize, const TOUR: usize, const LIFT: usize, const OR
     if want.is_err() {
         refused(&buffers, log);
     } else {
-        accepted(&buffers, Tables::lent(held, lent), log);
+        accepted(&buffers, tables(held, lent), log);
     }
 }
 
@@ -63,10 +63,10 @@ fn refused(buffers: &Buffers, log: &mut Log) {
 }
 
 // Each cell of the tables is the sheet's own.
-fn accepted(buffers: &Buffers, own: Tables, log: &mut Log) {
+fn accepted(buffers: &Buffers, own: tree::Lent, log: &mut Log) {
     log.same(Call::Build, Buffer::Label, own.label, buffers.label);
     log.same(Call::Build, Buffer::Tour, own.tour, buffers.tour);
     log.same(Call::Build, Buffer::Lift, own.lift, buffers.lift);
     log.same(Call::Build, Buffer::Order, own.order, buffers.order);
-    log.cells = log.cells.saturating_add(fit::tables(own.sheet.len()));
+    log.cells = log.cells.saturating_add(fit::tables(own.parents.len()));
 }

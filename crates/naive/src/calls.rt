@@ -1,33 +1,24 @@
 // The calls under test, and what they answered in plain numbers.
 
 use crate::call::Call;
-use crate::lend::{Buffers, Outputs, Tables};
+use crate::lend::{Buffers, Outputs};
 use crate::tests::{Refused, Said};
-use tree::{Outcome, Refusal, Traced};
+use tree::{Lent, Numbered, Refusal};
 
-// A refusal's number and place.
-fn refused(why: Refusal) -> Refused {
-    let shown = why.number_and_place();
-    Refused {
-        number: shown.number as usize,
-        place: shown.place,
+impl From<Refusal> for Refused {
+    fn from(why: Refusal) -> Refused {
+        let shown = Numbered::from(why);
+        Refused {
+            number: shown.number as usize,
+            place: shown.place,
+        }
     }
 }
 
-// An outcome in numbers.
-fn said(r: Outcome) -> Said {
-    match r {
-        Outcome::Accepted => Ok(0),
-        Outcome::Refused(why) => Err(refused(why)),
-    }
-}
-
-// What tracing a pair answered, in numbers.
-fn traced(r: Traced) -> Said {
-    match r {
-        Traced::Lifts(lifts) => Ok(lifts),
-        Traced::Refused(why) => Err(refused(why)),
-    }
+// The answer of a call that counts nothing.
+fn said(r: Result<(), Refusal>) -> Said {
+    r?;
+    Ok(0)
 }
 
 // Builds the tables of a sheet.
@@ -43,32 +34,17 @@ pub fn build(sheet: &[u16], buffers: &mut Buffers, work: &mut [u16]) -> Said {
 }
 
 // Makes a call on buffers that are lent; of a build, which has buffers of its own, the check that it begins with.
-pub fn make(call: Call, tables: Tables, question: &[u16], outputs: &mut Outputs) -> Said {
-    let Tables {
-        sheet,
-        label,
-        tour,
-        lift,
-        order,
-    } = tables;
+pub fn make(call: Call, lent: Lent, question: &[u16], outputs: &mut Outputs) -> Said {
     let work = &mut *outputs.work;
     let answer = &mut *outputs.answer;
     let rows = &mut *outputs.rows;
     match call {
-        Call::Check | Call::Build => said(tables::check(sheet, work)),
-        Call::Compare => said(tables::compare(sheet, label, tour, lift, order, work)),
-        Call::Labels => said(routes::pairs_by_labels(
-            sheet, label, tour, lift, order, work, question, answer,
-        )),
-        Call::Tour => said(routes::pairs_by_tour(
-            sheet, label, tour, lift, order, work, question, answer,
-        )),
-        Call::Lifts => said(routes::pairs_by_lifts(
-            sheet, label, tour, lift, order, work, question, answer,
-        )),
-        Call::Trail => traced(routes::trail(
-            sheet, label, tour, lift, order, work, question, answer, rows,
-        )),
-        Call::List => said(routes::list(sheet, label, tour, lift, order, work, question, answer)),
+        Call::Check | Call::Build => said(tables::check(lent.parents, work)),
+        Call::Compare => said(tables::compare(lent, work)),
+        Call::Labels => said(routes::pairs_by_labels(lent, work, question, answer)),
+        Call::Tour => said(routes::pairs_by_tour(lent, work, question, answer)),
+        Call::Lifts => said(routes::pairs_by_lifts(lent, work, question, answer)),
+        Call::Trail => Ok(routes::trail(lent, work, question, answer, rows)?),
+        Call::List => said(routes::list(lent, work, question, answer)),
     }
 }

@@ -6,7 +6,7 @@
 use crate::call::{Buffer, Call};
 use crate::climb::Sheet;
 use crate::fit::Lent;
-use crate::lend::{Outputs, Tables, cut, cut_mut};
+use crate::lend::{Outputs, cut, cut_mut, tables};
 use crate::log::{Log, Point};
 use crate::tests::{Refused, Said, Verdict};
 use crate::{answers, build, calls, tests};
@@ -48,7 +48,7 @@ pub fn hold(call: Call, held: Held, question: &[u16], lent: Lent, log: &mut Log)
         build::hold(want, held, lent, outputs.work, log);
         return 0;
     }
-    let came = calls::make(call, Tables::lent(held, lent), question, &mut outputs);
+    let came = calls::make(call, tables(held, lent), question, &mut outputs);
     after(call, want, came, held.sheet, question, &outputs, log);
     usize::from(outputs.answer.first().copied().unwrap_or(0))
 }

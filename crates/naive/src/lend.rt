@@ -15,30 +15,18 @@ pub fn cut_mut(cells: &mut [u16], count: usize) -> &mut [u16] {
     &mut cells[..count]
 }
 
-// A sheet and the tables that are lent with it to be read.
-#[derive(Clone, Copy)]
-pub struct Tables<'a> {
-    pub sheet: &'a [u16],
-    pub label: &'a [u16],
-    pub tour: &'a [u16],
-    pub lift: &'a [u16],
-    pub order: &'a [u16],
-}
-
-impl<'a> Tables<'a> {
-    // The tables are lent out of the sheet's own, which stand end to end.
-    pub fn lent(held: Held<'a>, lent: Lent) -> Tables<'a> {
-        let n = held.sheet.n;
-        let tour = fit::label(n);
-        let lift = tour.saturating_add(fit::tour(n));
-        let order = lift.saturating_add(fit::lift(n));
-        Tables {
-            sheet: cut(held.sheet.cells, lent.sheet),
-            label: cut(held.own, lent.label),
-            tour: part(held.own, tour, lent.tour),
-            lift: part(held.own, lift, lent.lift),
-            order: part(held.own, order, lent.order),
-        }
+// The sheet and its tables, to be read: they are lent out of the sheet's own, which stand end to end.
+pub fn tables<'a>(held: Held<'a>, lent: Lent) -> tree::Lent<'a> {
+    let n = held.sheet.n;
+    let tour = fit::label(n);
+    let lift = tour.saturating_add(fit::tour(n));
+    let order = lift.saturating_add(fit::lift(n));
+    tree::Lent {
+        parents: cut(held.sheet.cells, lent.sheet),
+        label: cut(held.own, lent.label),
+        tour: part(held.own, tour, lent.tour),
+        lift: part(held.own, lift, lent.lift),
+        order: part(held.own, order, lent.order),
     }
 }
 
