@@ -1,13 +1,14 @@
 -- What the steps from each node to its parent tell: a lent LEVEL or ASCENDANT that follows them is the sheet's own.
 -- Assumes nothing.
-use Prim.Native.Nat.{ℕ, suc, ◌+◌, ◌*◌, ◌≤◌, ◌<◌, zero-le}
+use Prim.Native.Nat.{ℕ, zero, suc, ◌+◌, ◌*◌, ◌≤◌, ◌<◌, zero-le}
 use native.Mathlib.Nat.{suc-mul, mul-le-mul_right}
 use native.Mathlib.Numerals.{add-one}
 use native.Mathlib.Omega.{arith}
-use mathlib.Core.Path.{◌≡◌, sym, ap, ◌∙◌}
+use mathlib.Core.Path.{◌≡◌, refl, sym, ap, ◌∙◌}
 use mathlib.Core.Logic.{◌≢◌}
 use mathlib.Core.List.{List}
 use lib.Bits.{bit_or, bit_xor}
+use lib.Dec.{lit<}
 use lib.ListN.{length, get_or}
 use Rattle.cells.proofs.Stretches.{no_bits}
 use Rattle.tree.specs.Tree.{parent, root_of}
@@ -17,6 +18,9 @@ use Rattle.tree.specs.Ready.{Columns, ColumnOwn}
 use Rattle.tree.proofs.Scans.{by_equal}
 use Rattle.tree.proofs.Trees.{root-found}
 use Rattle.tree.proofs.Columns.{column-same}
+use Rattle.labels.specs.declared.Column.{Column}
+use Rattle.labels.specs.declared.Column.TheVariants.{Level, Inlabel, Ascendant, Head}
+use Rattle.labels.specs.Columns.{in_order, place_of}
 use Rattle.labels.specs.Steps.{cell_in, Follows, Steps, StepAt, StepLaws}
 use Rattle.preorder.proofs.Parents.{Cells, cells_at, the-root, root-down}
 
@@ -78,6 +82,21 @@ steps-own {s} {label} {k = k} {more = more} laws p first low high =
     follows-own p laws.column (more s label) (first ∙ laws.root p.0 ∙ ap (label_column s k) (sym (root-found t))) low high (laws.rises p.0)
 
 -- ---- any column
+
+-- its place
+pub place-below : (c : Column) → place_of c < 6
+place-below Level = lit< tt
+place-below Inlabel = lit< tt
+place-below Ascendant = lit< tt
+place-below Head = lit< tt
+
+-- that of each in order
+pub place-at : (i : ℕ) → i < 4 → place_of (get_or in_order i Level) ≡ 2 + i
+place-at zero h = refl
+place-at (suc zero) h = refl
+place-at (suc (suc zero)) h = refl
+place-at (suc (suc (suc zero))) h = refl
+place-at (suc (suc (suc (suc i)))) h = absurd (omega arith)
 
 -- there is room for it
 pub column-room : (k n : ℕ) → k < 6 → k * n + n ≤ label_cells n

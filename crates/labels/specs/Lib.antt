@@ -1,3 +1,4 @@
 pub mod Heads
 pub mod Steps
 pub mod Laws
+pub mod Columns

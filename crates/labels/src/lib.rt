@@ -14,9 +14,75 @@ ghost use Rattle.tree.specs.Tree.{root_of};
 ghost use Rattle.tree.specs.Labels.{label_table, topmost};
 ghost use Rattle.tree.specs.Ready.{Columns, ColumnIn, ColumnOwn, OrderIn};
 ghost use Rattle.cells.specs.Cells.{AgreeAt};
+ghost use Rattle.labels.specs.Columns.{place_of};
 ghost use Rattle.labels.specs.Heads.{head_place};
 
-use step::{Ascendant, Level, Step};
+use step::Step;
+
+// The columns after PREORDER and SIZE, each with its place in the label table.
+#[derive(Clone, Copy)]
+pub enum Column {
+    Level = 2,
+    Inlabel = 3,
+    Ascendant = 4,
+    Head = 5,
+}
+
+impl Column {
+    // In the table's order, in which each can be made.
+    pub const ALL: [Column; 4] = [
+        Column::Level,
+        Column::Inlabel,
+        Column::Ascendant,
+        Column::Head,
+    ];
+
+    // Its place in the table: it is the n cells from that many times n on.
+    pub fn place(self) -> usize
+        ensures { result ≡ place_of self }
+    {
+        self as usize
+    }
+
+    // The column, into the n cells of work from n on.
+    pub fn make(self, parents: &[u16], root: usize, label: &[u16], work: &mut [u16])
+        requires { Columns parents.now label.now work.old (place_of self) × (root ≡ root_of parents.now) }
+        ensures { ColumnIn parents.now work.new (place_of self) }
+    {
+        match self {
+            Column::Level => stepwise::<step::Level>(parents, label, work),
+            Column::Inlabel => inlabels(parents, label, work),
+            Column::Ascendant => stepwise::<step::Ascendant>(parents, label, work),
+            Column::Head => heads(parents, root, label, work),
+        }
+    }
+
+    // How many of its cells in a lent label table are the sheet's own before the first that is not. LEVEL and ASCENDANT are made only where they are not found
+    // to be the sheet's own.
+    pub fn agree(self, parents: &[u16], root: usize, label: &[u16], work: &mut [u16]) -> usize
+        requires { Columns parents.now label.now work.old (place_of self) × (root ≡ root_of parents.now) }
+        ensures { AgreeAt label.now (label_table parents.now) (place_of self * length parents.now) (length parents.now) result }
+    {
+        let n = parents.len();
+        if self.holds(parents, root, label, work) {
+            return n;
+        }
+        self.make(parents, root, label, work);
+        cells::agree(label, self.place() * n, work, n, n)
+    }
+
+    // Whether it is the sheet's own there, where that is told without making it: of LEVEL and ASCENDANT.
+    fn holds(self, parents: &[u16], root: usize, label: &[u16], work: &[u16]) -> bool
+        requires { Columns parents.now label.now work.now (place_of self) × (root ≡ root_of parents.now) }
+        ensures { result ≡ true → ColumnOwn parents.now label.now (place_of self) }
+    {
+        match self {
+            Column::Level => steps::hold::<step::Level>(parents, root, label, work),
+            Column::Ascendant => steps::hold::<step::Ascendant>(parents, root, label, work),
+            Column::Inlabel | Column::Head => false,
+        }
+    }
+}
 
 // The nodes in preorder, which are the order table, into the first n cells of work.
 pub fn order(parents: &[u16], label: &[u16], work: &mut [u16])
@@ -24,51 +90,6 @@ pub fn order(parents: &[u16], label: &[u16], work: &mut [u16])
     ensures { OrderIn parents.now work.new }
 {
     along::order(parents, label, work);
-}
-
-// Column k, from 2 on, into the n cells of work from n on.
-pub fn column(k: usize, parents: &[u16], root: usize, label: &[u16], work: &mut [u16])
-    requires { (2 ≤ k) × (k < 6) × Columns parents.now label.now work.old k × (root ≡ root_of parents.now) }
-    ensures { ColumnIn parents.now work.new k }
-{
-    match k {
-        2 => stepwise::<Level>(parents, label, work),
-        3 => inlabels(parents, label, work),
-        4 => stepwise::<Ascendant>(parents, label, work),
-        _ => heads(parents, root, label, work),
-    }
-}
-
-// How many cells of column k of a lent label table, from 2 on, are the sheet's own before the first that is not. LEVEL and ASCENDANT are made only where they are
-// not found to be the sheet's own.
-pub fn agree_column(
-    k: usize,
-    parents: &[u16],
-    root: usize,
-    label: &[u16],
-    work: &mut [u16],
-) -> usize
-    requires { (2 ≤ k) × (k < 6) × Columns parents.now label.now work.old k × (root ≡ root_of parents.now) }
-    ensures { AgreeAt label.now (label_table parents.now) (k * length parents.now) (length parents.now) result }
-{
-    let n = parents.len();
-    if column_holds(k, parents, root, label, work) {
-        return n;
-    }
-    column(k, parents, root, label, work);
-    cells::agree(label, k * n, work, n, n)
-}
-
-// Whether column k is the sheet's own, where that is told without making it: of LEVEL and ASCENDANT.
-fn column_holds(k: usize, parents: &[u16], root: usize, label: &[u16], work: &[u16]) -> bool
-    requires { Columns parents.now label.now work.now k × (root ≡ root_of parents.now) }
-    ensures { result ≡ true → ColumnOwn parents.now label.now k }
-{
-    match k {
-        2 => steps::hold::<Level>(parents, root, label, work),
-        4 => steps::hold::<Ascendant>(parents, root, label, work),
-        _ => false,
-    }
 }
 
 // LEVEL or ASCENDANT, into the n cells of work from n on.

@@ -11,6 +11,8 @@ ghost use Rattle.tree.specs.Ready.{Ready, Columns, TourOwn};
 ghost use Rattle.tree.specs.Tables.{lent_by};
 ghost use Rattle.tables.specs.Sections.{Fits, Built};
 
+use labels::Column;
+
 // All four, and work is cleared.
 pub(crate) fn tables(
     parents: &[u16],
@@ -39,11 +41,9 @@ pub(crate) fn label(parents: &[u16], table: &mut [u16], work: &mut [u16])
     let root = rooted::root(parents);
     preorder::numbers(parents, root, work);
     cells::copy(table, 0, work, 2 * n, 2 * n);
-    let mut k = 2;
-    while k < 6 {
-        labels::column(k, parents, root, table, work);
-        cells::copy(table, k * n, work, n, n);
-        k += 1;
+    for column in Column::ALL {
+        column.make(parents, root, table, work);
+        cells::copy(table, column.place() * n, work, n, n);
     }
 }
 

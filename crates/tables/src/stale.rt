@@ -16,6 +16,7 @@ ghost use Rattle.tree.specs.Tests.{verdict, stale_table};
 ghost use Rattle.tree.specs.Tables.{lent_by};
 ghost use Rattle.tables.specs.Sections.{Fits};
 
+use labels::Column;
 use tree::{Outcome, Refusal};
 
 // Test 8: the four tables end to end.
@@ -61,13 +62,11 @@ pub(crate) fn label(parents: &[u16], table: &[u16], work: &mut [u16]) -> usize
     if same < 2 * n {
         return same;
     }
-    let mut k = 2;
-    while k < 6 {
-        let same = labels::agree_column(k, parents, root, table, work);
+    for column in Column::ALL {
+        let same = column.agree(parents, root, table, work);
         if same < n {
-            return k * n + same;
+            return column.place() * n + same;
         }
-        k += 1;
     }
     6 * n
 }

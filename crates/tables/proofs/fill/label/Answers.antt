@@ -1,18 +1,18 @@
 -- `tables::fill::label` meets its contract: the first k columns are filled.
 -- Assumes nothing.
 use native.Mathlib.Omega.{arith}
-use borrow.Author.Rules.{rules}
 use native.Mathlib.Nat.{zero-add}
-use native.Mathlib.Numerals.{add-one}
+use Prim.Native.Nat.{suc, ◌+◌}
 use mathlib.Core.Path.{◌≡◌, sym, ◌∙◌}
 use lib.ListN.{length}
 use Rattle.tree.proofs.Cells.{label-length}
 use Rattle.tree.proofs.Columns.{ready-kept}
 use Rattle.tree.proofs.Differences.{same_none, same-all}
 use Rattle.tables.proofs.Sections.{copied-upto}
-use Rattle.labels.proofs.Stepping.{column-room}
+use Rattle.labels.proofs.Stepping.{column-room, place-at}
 use Rattle.tables.proofs.Columnwise.{columns-more}
 use Rattle.tables.proofs.fill.label.Goals as goal
+use Rattle.tables.proofs.fill.label.Goals.{After-place}
 
 pub numbers-requires : goal.numbers-requires
 numbers-requires c =
@@ -25,42 +25,43 @@ copy-requires c =
     let kept = c.numbers.auto.work in
     (omega arith, omega arith)
 
-pub loop-k-init : goal.loop-k-init
-loop-k-init c =
+pub loop-column-init : goal.loop-column-init
+loop-column-init c =
     let k = c.copy in
     let m = c.numbers in
-    let own = rw zero-add at (copied-upto (same_none _ _ _ _) k.ensures m.ensures) in (
-      search rules,
-      search rules,
-      record { ready = ready-kept c.requires.0 m.auto.work; cells = k.auto.to ∙ c.requires.1; own = own },
-    )
+    let own = rw zero-add at (copied-upto (same_none _ _ _ _) k.ensures m.ensures) in
+    record { ready = ready-kept c.requires.0 m.auto.work; cells = k.auto.to ∙ c.requires.1; own = own }
 
-pub column-requires : goal.column-requires
-column-requires c =
-    let l = c.loop-k.invariant in
-    (l.0, c.loop-k-test.true, l.2, c.root-root.ensures)
+pub make-requires : goal.make-requires
+make-requires c = (rw (place-at c.loop-column.column-index c.loop-column-test.true) c.loop-column.invariant, c.root-root.ensures)
 
-pub copy-requires-in-loop-k : goal.copy-requires-in-loop-k
-copy-requires-in-loop-k c =
-    let l = c.loop-k.invariant in
-    let room = column-room c.loop-k.k (length c.args.parents.now) c.loop-k-test.true in
-    let kept = c.column.auto.work in
-    let cells = l.2.cells in
-    let work = l.2.ready.room in
+-- the place of the column at hand
+place : (c : After-place) → c.place.result ≡ 2 + c.loop-column.column-index
+place c = c.place.ensures ∙ place-at c.loop-column.column-index c.loop-column-test.true
+
+pub copy-requires-in-loop-column : goal.copy-requires-in-loop-column
+copy-requires-in-loop-column c =
+    let l = c.loop-column in
+    let here = place (goal.at.copy-requires-in-loop-column c).After-place in
+    let room = column-room c.place.result (length c.args.parents.now) (omega arith) in
+    let kept = c.make.auto.work in
+    let cells = l.invariant.cells in
+    let work = l.invariant.ready.room in
     (omega arith, omega arith)
 
-pub loop-k-preserved : goal.loop-k-preserved
-loop-k-preserved c =
-    let l = c.loop-k.invariant in
-    let k = c.copy-in-loop-k in
-    let m = c.column in (
-      omega arith,
-      omega arith,
-      rw add-one (columns-more (ready-kept l.2.ready m.auto.work) (k.auto.to ∙ l.2.cells) (copied-upto l.2.own k.ensures m.ensures)),
-    )
+pub loop-column-preserved : goal.loop-column-preserved
+loop-column-preserved c =
+    let l = c.loop-column in
+    let k = c.copy-in-loop-column in
+    let m = c.make in
+    let here = place (goal.at.loop-column-preserved c).After-place in
+    let made = rw (place-at l.column-index c.loop-column-test.true) at m.ensures in
+    let copied = rw here at k.ensures in
+    let next : 2 + (l.column-index + 1) ≡ suc (2 + l.column-index) = omega arith in
+    rw next (columns-more (ready-kept l.invariant.ready m.auto.work) (k.auto.to ∙ l.invariant.cells) (copied-upto l.invariant.own copied made))
 
 pub returns : goal.returns
 returns c =
-    let l = c.loop-k.invariant in
-    let e : c.loop-k.k ≡ 6 = omega arith in
-    same-all _ _ (l.2.cells ∙ sym (label-length _)) (rw (label-length _) (rw e at l.2.own))
+    let l = c.loop-column.invariant in
+    let e : c.loop-column.column-index ≡ 4 = omega arith in
+    same-all _ _ (l.cells ∙ sym (label-length _)) (rw (label-length _) (rw e at l.own))

@@ -1,11 +1,8 @@
--- `tables::fill::label` meets its contract: the first k columns are filled.
+-- `tables::fill::label` meets its contract: the columns before the one at hand are filled.
 -- Assumes nothing.
-use Prim.Native.Nat.{◌-◌, ◌≤◌}
+use Prim.Native.Nat.{◌+◌}
 use Rattle.tree.specs.Ready.{Columns}
 use Rattle.tables.proofs.fill.label.Given as goal
 
-abbrev pub invariant-loop-k : goal.invariant-loop-k
-invariant-loop-k l = (2 ≤ l.k) × (l.k ≤ 6) × Columns l.parents l.table l.work l.k
-
-abbrev pub decreases-loop-k : goal.decreases-loop-k
-decreases-loop-k l = 6 - l.k
+abbrev pub invariant-loop-column : goal.invariant-loop-column
+invariant-loop-column l = Columns l.parents l.table l.work (2 + l.column-index)

@@ -1,25 +1,21 @@
 -- `tables::stale::label` meets its contract: the table's first k columns are the sheet's own, and the next is compared.
 -- Assumes nothing.
 use native.Mathlib.Omega.{arith}
-use Prim.Native.Nat.{◌+◌, ◌*◌, ◌≤◌}
-use native.Mathlib.Numerals.{add-one}
-use mathlib.Core.Path.{◌≡◌, refl}
+use Prim.Native.Nat.{suc, ◌+◌}
+use mathlib.Core.Path.{◌≡◌, refl, ◌∙◌}
 use lib.ListN.{length}
 use Rattle.tree.specs.Tree.{root_of}
-use Rattle.tree.specs.Buffers.{label_cells}
 use Rattle.tree.proofs.Cells.{label-length}
 use Rattle.tree.proofs.Columns.{ready-kept}
-use Rattle.labels.proofs.Stepping.{column-room}
+use Rattle.labels.proofs.Stepping.{column-room, place-at}
 use Rattle.tables.proofs.Columnwise.{columns-more, columns-none}
 use Rattle.tables.proofs.Sections.{agree-all, agree-parts, agree-all-first, agree-parts-first}
 use Rattle.tables.proofs.stale.label.Goals as goal
-use Rattle.tables.proofs.stale.label.Goals.{In-loop-k}
+use Rattle.tables.proofs.stale.label.Goals.{After-place}
 
--- there is room for column k
-room : (c : In-loop-k) →
-    let n = length c.args.parents.now in
-    c.loop-k.k * n + n ≤ label_cells n
-room c = column-room _ _ c.loop-k-test.true
+-- the place of the column at hand
+place : (c : After-place) → c.place.result ≡ 2 + c.loop-column.column-index
+place c = c.place.ensures ∙ place-at c.loop-column.column-index c.loop-column-test.true
 
 pub numbers-same-requires : goal.numbers-same-requires
 unfolding root_of
@@ -31,35 +27,36 @@ returns-then-same-n c =
     let own = label-length c.args.parents.now in
     agree-parts-first c.numbers-same.ensures (record { cell = λ x h. refl }) (omega arith) c.if-same-n.true
 
-pub loop-k-init : goal.loop-k-init
-loop-k-init c =
+pub loop-column-init : goal.loop-column-init
+loop-column-init c =
     let numbers = c.numbers-same in
     let own = agree-all-first numbers.ensures (record { cell = λ x h. refl }) c.if-same-n.false in
-    (omega arith, omega arith, record { ready = ready-kept c.requires.0 numbers.auto.work; cells = c.requires.1; own = own })
+    record { ready = ready-kept c.requires.0 numbers.auto.work; cells = c.requires.1; own = own }
 
-pub agree_column-same-requires : goal.agree_column-same-requires
+pub agree-same-requires : goal.agree-same-requires
 unfolding root_of
-agree_column-same-requires c =
-    let l = c.loop-k.invariant in
-    (l.0, c.loop-k-test.true, l.2, c.root-root.ensures)
+agree-same-requires c = (rw (place-at c.loop-column.column-index c.loop-column-test.true) c.loop-column.invariant, c.root-root.ensures)
 
 pub returns-then-same-n-2 : goal.returns-then-same-n-2
 returns-then-same-n-2 c =
-    let most = room (goal.at.returns-then-same-n-2 c).In-loop-k in
+    let l = c.loop-column in
+    let here = place (goal.at.returns-then-same-n-2 c).After-place in
+    let most = column-room (2 + l.column-index) (length c.args.parents.now) (omega arith) in
     let own = label-length c.args.parents.now in
-    agree-parts c.loop-k.invariant.2.own c.agree_column-same.ensures (record { cell = λ x h. refl }) (omega arith) c.if-same-n-2.true
+    let agreed = rw (place-at l.column-index c.loop-column-test.true) at c.agree-same.ensures in
+    rw here (agree-parts l.invariant.own agreed (record { cell = λ x h. refl }) (omega arith) c.if-same-n-2.true)
 
-pub loop-k-preserved : goal.loop-k-preserved
-loop-k-preserved c =
-    let l = c.loop-k.invariant in
-    let taken = c.loop-k-test.true in
-    let column = c.agree_column-same in
-    let own = agree-all l.2.own column.ensures (record { cell = λ x h. refl }) c.if-same-n-2.false in
-    (omega arith, omega arith, rw add-one (columns-more (ready-kept l.2.ready column.auto.work) l.2.cells own))
+pub loop-column-preserved : goal.loop-column-preserved
+loop-column-preserved c =
+    let l = c.loop-column in
+    let column = c.agree-same in
+    let agreed = rw (place-at l.column-index c.loop-column-test.true) at column.ensures in
+    let own = agree-all l.invariant.own agreed (record { cell = λ x h. refl }) c.if-same-n-2.false in
+    let next : 2 + (l.column-index + 1) ≡ suc (2 + l.column-index) = omega arith in
+    rw next (columns-more (ready-kept l.invariant.ready column.auto.work) l.invariant.cells own)
 
 pub returns : goal.returns
 returns c =
-    let l = c.loop-k in
-    let left = c.loop-k-test.false in
-    let six : l.k ≡ 6 = omega arith in
-    columns-none (rw six at l.invariant.2)
+    let l = c.loop-column in
+    let six : l.column-index ≡ 4 = omega arith in
+    columns-none (rw six at l.invariant)
