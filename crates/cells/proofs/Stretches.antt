@@ -1,15 +1,16 @@
 -- Cells found equal by their bits, and the first that passes a test.
 -- Assumes nothing.
-use Prim.Native.Nat.{ℕ, ◌≤◌}
+use Prim.Native.Nat.{ℕ, ◌+◌, ◌≤◌}
 use native.Mathlib.Omega.{arith}
-use mathlib.Core.Path.{◌≡◌, refl, sym, ◌∙◌}
+use mathlib.Core.Path.{◌≡◌, refl, sym, ap, ◌∙◌}
 use mathlib.Core.Bool.{Bool}
 use mathlib.Core.List.{List}
 use borrow.Author.Tests.{ltb-false}
 use lib.Dec.{ltb}
 use lib.Bits.{bit_or, bit_xor, and_le_l, and_le_r, or_add_and, xor_add_and}
 use lib.ListN.{length, get_or}
-use Rattle.std.specs.List.{position, position_or_len}
+use Rattle.std.specs.List.{between, position, position_or_len}
+use Rattle.std.proofs.lemmas.List.Edits.{get_or-between}
 use Rattle.std.specs.Option.{unwrap_or}
 use Rattle.std.proofs.lemmas.List.Sums.{position_or_len_is}
 use Rattle.tree.specs.Scan.{least}
@@ -26,6 +27,13 @@ pub no_bits : (bits x y : ℕ) → bit_or bits (bit_xor x y) ≡ 0 → (bits ≡
 no_bits bits x y e =
     let none = or-none bits (bit_xor x y) e in
     (none.0, omega (arith, none.1, xor_add_and x y, and_le_l x y, and_le_r x y))
+
+-- stretches that are equal as slices
+pub same-slices : (a b : List ℕ) (i j k : ℕ) → between i (i + k) a ≡ between j (j + k) b → Same a i b j k
+same-slices a b i j k e = record {
+  cell = λ x h.
+      sym (get_or-between a i (i + k) x 0 (omega arith)) ∙ ap (λ (l : List ℕ). get_or l x 0) e ∙ get_or-between b j (j + k) x 0 (omega arith);
+}
 
 -- what agrees with a stretch that equals another agrees with the other
 pub agree_same : {a b c : List ℕ} {i j l k r : ℕ} → Agree a i b j k r → Same b j c l k → Agree a i c l k r

@@ -5,7 +5,6 @@
 
 ghost use Rattle.std.specs.Prelude.{◌≡◌, true, ℕ, ◌+◌, ◌≤◌, ◌<◌, leb, length, get_or, replicate, position};
 ghost use Rattle.tree.specs.Scan.{least};
-ghost use Rattle.tree.specs.Sections.{Same};
 ghost use Rattle.cells.specs.Cells.{Filled, Copied, Agree};
 
 // No node: what a cell holds in whose place there is none.
@@ -46,7 +45,7 @@ pub fn agree(a: &[u16], at: usize, b: &[u16], start: usize, count: usize) -> usi
     requires { (at + count ≤ length a.now) × (start + count ≤ length b.now) }
     ensures { Agree a.now at b.now start count result }
 {
-    if same(a, at, b, start, count) {
+    if a[at..at + count] == b[start..start + count] {
         return count;
     }
     for i in 0..count {
@@ -57,19 +56,7 @@ pub fn agree(a: &[u16], at: usize, b: &[u16], start: usize, count: usize) -> usi
     count
 }
 
-// Whether all those cells are equal: no bit differs in any two. It stops at no cell, so that several are compared at once.
-fn same(a: &[u16], at: usize, b: &[u16], start: usize, count: usize) -> bool
-    requires { (at + count ≤ length a.now) × (start + count ≤ length b.now) }
-    ensures { result ≡ true → Same a.now at b.now start count }
-{
-    let mut bits = 0;
-    for i in 0..count {
-        bits |= a[at + i] ^ b[start + i];
-    }
-    bits == 0
-}
-
-// Whether the `count` cells from `first` on all hold `value`. It stops at no cell either.
+// Whether the `count` cells from `first` on all hold `value`: no bit differs in any. It stops at no cell, so that several are compared at once.
 pub fn all_hold(cells: &[u16], first: usize, count: usize, value: u16) -> bool
     requires { first + count ≤ length cells.now }
     ensures { result ≡ true → (i : ℕ) → i < count → get_or cells.now (first + i) 0 ≡ value }

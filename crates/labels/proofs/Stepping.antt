@@ -74,7 +74,8 @@ module _ {s label work : List ℕ} {k r : ℕ} (p : Columns s label work k × (r
       (root-down p.0.ready.tree p.1 (cell_in s label k) (label_column s k) more first low.step high.step grows)
 
 -- .. as a column does that keeps the laws
-pub steps-own : {s label work : List ℕ} {k r : ℕ} {top : ℕ → ℕ} {more : List ℕ → List ℕ → ℕ → ℕ} → StepLaws k top more → (p : Columns s label work k × (r ≡ root_of s))
+pub steps-own : {s label work : List ℕ} {k r : ℕ} {top : ℕ → ℕ} {more : List ℕ → List ℕ → ℕ → ℕ}
+    → StepLaws k top more → (p : Columns s label work k × (r ≡ root_of s))
     → cell_in s label k r ≡ top (length s) → Follows s label k (more s label) 0 r → Follows s label k (more s label) (r + 1) (length s) → ColumnOwn s label k
 steps-own {s} {label} {k = k} {more = more} laws p first low high =
     let t = p.0.ready.tree in

@@ -57,8 +57,8 @@ impl Column {
         }
     }
 
-    // How many of its cells in a lent label table are the sheet's own before the first that is not. LEVEL and ASCENDANT are made only where they are not found to
-    // be the sheet's own.
+    // How many of its cells in a lent label table are the sheet's own before the first that is not. LEVEL and ASCENDANT are made only where they are not found
+    // to be the sheet's own.
     pub fn agree(self, parents: &[u16], root: usize, label: &[u16], work: &mut [u16]) -> usize
         requires { Columns parents.now label.now work.old (place_of self) × (root ≡ root_of parents.now) }
         ensures { AgreeAt label.now (label_table parents.now) (place_of self * length parents.now) (length parents.now) result }

@@ -86,7 +86,8 @@ impl Row {
     }
 }
 
-// Of two positions, at levels i and j, the one of lesser level, the left one at equal levels. It is given all four, so that the choice is a value, not a branch.
+// Of two positions, at levels i and j, the one of lesser level, the left one at equal levels. It is given all four, so that the choice is a value and not
+// a branch.
 fn leftmost(left: u16, i: u16, right: u16, j: u16) -> u16
     ensures { result ≡ cond (ltb j i) right left }
 {

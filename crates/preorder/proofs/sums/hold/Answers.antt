@@ -64,7 +64,8 @@ add-requires-then-add c =
     }
 
 -- the sums over all nodes, too
-high : (c : Joined-add) → c.if-add.value ≡ true → (c.if-label-root-eq1.value ≡ true) × Sums c.args.parents.now c.args.label.now c.if-add.work (length c.args.parents.now)
+high : (c : Joined-add) → c.if-add.value ≡ true
+    → (c.if-label-root-eq1.value ≡ true) × Sums c.args.parents.now c.args.label.now c.if-add.work (length c.args.parents.now)
     × Numbered c.args.parents.now c.args.label.now (c.args.root + 1) (length c.args.parents.now)
 high c e =
     elim c.if-add.branch [

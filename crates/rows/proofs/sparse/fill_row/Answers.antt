@@ -36,7 +36,8 @@ loop-i-preserved c =
     let two = c.requires.level-row.two in
     let some = c.requires.level-row.some in
     let next : c.args.at + m + l.i + 1 ≡ c.args.at + m + (l.i + 1) = omega arith in
-    let own : c.chosen.result ≡ get_or (tour_table c.args.parents.now) (0 + (c.args.at + m + l.i)) 0 = rw zero-add (c.chosen.ensures ∙ (blocks (goal.at.loop-i-preserved c).In-loop-i).lesser) in
+    let lesser = (blocks (goal.at.loop-i-preserved c).In-loop-i).lesser in
+    let own : c.chosen.result ≡ get_or (tour_table c.args.parents.now) (0 + (c.args.at + m + l.i)) 0 = rw zero-add (c.chosen.ensures ∙ lesser) in
     rw next at (same_store (omega arith) l.invariant own)
 
 pub fill-requires : goal.fill-requires

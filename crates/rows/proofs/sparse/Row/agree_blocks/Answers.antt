@@ -31,13 +31,13 @@ chosen-own-requires c =
 
 pub returns-then-table-next : goal.returns-then-table-next
 returns-then-table-next c =
-    let l = c.loop-i in
-    record { most = omega arith; same = l.invariant; parts = λ h e. c.if-table-next.true (e ∙ sym (c.chosen-own.ensures ∙ (blocks (goal.at.returns-then-table-next c).In-loop-i).lesser)) }
+    let own = c.chosen-own.ensures ∙ (blocks (goal.at.returns-then-table-next c).In-loop-i).lesser in
+    record { most = omega arith; same = c.loop-i.invariant; parts = λ h e. c.if-table-next.true (e ∙ sym own) }
 
 pub loop-i-preserved : goal.loop-i-preserved
 loop-i-preserved c =
-    let l = c.loop-i in
-    rw add-one (same_more l.invariant (c.if-table-next.false ∙ c.chosen-own.ensures ∙ (blocks (goal.at.loop-i-preserved c).In-loop-i).lesser))
+    let own = c.chosen-own.ensures ∙ (blocks (goal.at.loop-i-preserved c).In-loop-i).lesser in
+    rw add-one (same_more c.loop-i.invariant (c.if-table-next.false ∙ own))
 
 pub returns : goal.returns
 returns c =

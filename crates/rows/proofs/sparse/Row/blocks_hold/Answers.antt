@@ -30,7 +30,8 @@ chosen-own-requires c =
 pub loop-i-preserved : goal.loop-i-preserved
 loop-i-preserved c =
     let l = c.loop-i in
-    λ z. let none = no_bits _ _ _ z in rw add-one (same_more (l.invariant none.0) (none.1 ∙ c.chosen-own.ensures ∙ (blocks (goal.at.loop-i-preserved c).In-loop-i).lesser))
+    let own = c.chosen-own.ensures ∙ (blocks (goal.at.loop-i-preserved c).In-loop-i).lesser in
+    λ z. let none = no_bits _ _ _ z in rw add-one (same_more (l.invariant none.0) (none.1 ∙ own))
 
 pub returns : goal.returns
 returns c =
