@@ -1,7 +1,7 @@
 // The questions, one by one, of an accepted sheet with its own tables. Each is a call of `routes`, which tests its input and compares the tables itself.
 
 ghost use Rattle.std.specs.Prelude.{◌≤◌};
-ghost use Rattle.text.specs.Puts.{Room, Puts};
+ghost use Rattle.text.specs.Writes.{HasRoom, Writes};
 ghost use Rattle.lines.specs.Forms.{pair as Forms·pair, many as Forms·many};
 ghost use Rattle.lines.specs.Machine.{most};
 ghost use Rattle.lines.specs.Gives.{rest_of, query_of};
@@ -12,9 +12,10 @@ ghost use Rattle.tree.specs.Tables.{lent_by};
 use crate::print;
 use crate::print::PairAnswer;
 use lines::{Question, Reader};
+use text::Writer;
 use tree::{Outcome, Refusal, Traced};
 
-// Answers the questions that the reader has before it, the first of which is line `first`, and writes the answers from place `put` on.
+// Answers the questions that the reader has before it, the first of which is line `first`.
 pub(crate) fn questions(
     mut reader: Reader,
     first: usize,
@@ -24,24 +25,21 @@ pub(crate) fn questions(
     lift: &[u16],
     order: &[u16],
     work: &mut [u16],
-    out: &mut [u8],
-    put: usize,
-) -> usize
+    to: &mut Writer,
+)
     requires first_in_bounds { first ≤ part_line most }
     requires stands { Stands (lent_by parents.now label.now tour.now lift.now order.now) work.old }
-    requires room { Room out.old put (Run·questions parents.now first (rest_of reader)) }
-    ensures { Puts out.old put (Run·questions parents.now first (rest_of reader.entry)) out.new result }
+    requires room { HasRoom to.old (Run·questions parents.now first (rest_of reader)) }
+    ensures { Writes to.old (Run·questions parents.now first (rest_of reader.entry)) to.new }
 {
     let mut number = first;
-    let mut next = put;
     while reader.has_more() {
         let Some(q) = question(&mut reader) else {
-            return print::refusal(out, next, Refusal::MalformedLine(number));
+            return print::refusal(to, Refusal::MalformedLine(number));
         };
-        next = answer(&q, parents, label, tour, lift, order, work, out, next);
+        answer(&q, parents, label, tour, lift, order, work, to);
         number += 1;
     }
-    next
 }
 
 // Takes a question line.
@@ -60,15 +58,14 @@ fn answer(
     lift: &[u16],
     order: &[u16],
     work: &mut [u16],
-    out: &mut [u8],
-    put: usize,
-) -> usize
+    to: &mut Writer,
+)
     requires stands { Stands (lent_by parents.now label.now tour.now lift.now order.now) work.old }
-    requires room { Room out.old put (Run·answer parents.now (query_of q.now)) }
-    ensures { Puts out.old put (Run·answer parents.now (query_of q.now)) out.new result }
+    requires room { HasRoom to.old (Run·answer parents.now (query_of q.now)) }
+    ensures { Writes to.old (Run·answer parents.now (query_of q.now)) to.new }
 {
     match q {
-        Question::Pair(x, y) => pair(*x, *y, parents, label, tour, lift, order, work, out, put),
+        Question::Pair(x, y) => pair(*x, *y, parents, label, tour, lift, order, work, to),
         Question::Many(numbers) => many(
             numbers.as_slice(),
             parents,
@@ -77,8 +74,7 @@ fn answer(
             lift,
             order,
             work,
-            out,
-            put,
+            to,
         ),
     }
 }
@@ -93,12 +89,11 @@ fn pair(
     lift: &[u16],
     order: &[u16],
     work: &mut [u16],
-    out: &mut [u8],
-    put: usize,
-) -> usize
+    to: &mut Writer,
+)
     requires stands { Stands (lent_by parents.now label.now tour.now lift.now order.now) work.old }
-    requires room { Room out.old put (Run·answer parents.now (Forms·pair x y)) }
-    ensures { Puts out.old put (Run·answer parents.now (Forms·pair x y)) out.new result }
+    requires room { HasRoom to.old (Run·answer parents.now (Forms·pair x y)) }
+    ensures { Writes to.old (Run·answer parents.now (Forms·pair x y)) to.new }
 {
     let question = [x, y];
     let mut answer = [0u16; routes::ANSWER_CELLS];
@@ -113,16 +108,14 @@ fn pair(
         &mut answer,
     );
     if let Outcome::Refused(why) = r {
-        return print::refusal(out, put, why);
+        return print::refusal(to, why);
     }
     let found = PairAnswer {
         carrier: answer[0],
         left: answer[1],
         right: answer[2],
     };
-    lifted(
-        x, y, found, parents, label, tour, lift, order, work, out, put,
-    )
+    lifted(x, y, found, parents, label, tour, lift, order, work, to)
 }
 
 // The same once these are found: its lifts are those of its trail.
@@ -136,13 +129,12 @@ fn lifted(
     lift: &[u16],
     order: &[u16],
     work: &mut [u16],
-    out: &mut [u8],
-    put: usize,
-) -> usize
+    to: &mut Writer,
+)
     requires found { Found parents.now x y found }
     requires stands { Stands (lent_by parents.now label.now tour.now lift.now order.now) work.old }
-    requires room { Room out.old put (Run·answer parents.now (Forms·pair x y)) }
-    ensures { Puts out.old put (Run·answer parents.now (Forms·pair x y)) out.new result }
+    requires room { HasRoom to.old (Run·answer parents.now (Forms·pair x y)) }
+    ensures { Writes to.old (Run·answer parents.now (Forms·pair x y)) to.new }
 {
     let question = [x, y];
     let mut answer = [0u16; 1];
@@ -159,8 +151,8 @@ fn lifted(
         &mut rows,
     );
     match r {
-        Traced::Lifts(lifts) => print::pair(out, put, x, y, found, lifts),
-        Traced::Refused(why) => print::refusal(out, put, why),
+        Traced::Lifts(lifts) => print::pair(to, x, y, found, lifts),
+        Traced::Refused(why) => print::refusal(to, why),
     }
 }
 
@@ -173,12 +165,11 @@ fn many(
     lift: &[u16],
     order: &[u16],
     work: &mut [u16],
-    out: &mut [u8],
-    put: usize,
-) -> usize
+    to: &mut Writer,
+)
     requires stands { Stands (lent_by parents.now label.now tour.now lift.now order.now) work.old }
-    requires room { Room out.old put (Run·answer parents.now (Forms·many question.now)) }
-    ensures { Puts out.old put (Run·answer parents.now (Forms·many question.now)) out.new result }
+    requires room { HasRoom to.old (Run·answer parents.now (Forms·many question.now)) }
+    ensures { Writes to.old (Run·answer parents.now (Forms·many question.now)) to.new }
 {
     let mut answer = [0u16; 1];
     let r = routes::list(
@@ -192,7 +183,7 @@ fn many(
         &mut answer,
     );
     if let Outcome::Refused(why) = r {
-        return print::refusal(out, put, why);
+        return print::refusal(to, why);
     }
-    print::many(out, put, question, answer[0])
+    print::many(to, question, answer[0]);
 }
