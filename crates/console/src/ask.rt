@@ -32,6 +32,7 @@ pub(crate) fn questions(
     requires room { HasRoom to.old (Run·questions parents.now first (rest_of reader)) }
     ensures { Writes to.old (Run·questions parents.now first (rest_of reader.entry)) to.new }
 {
+    // No `for` over the reader: it gives nothing at an illegible line too, which is refused by its number.
     let mut number = first;
     while reader.has_more() {
         let Some(q) = question(&mut reader) else {
