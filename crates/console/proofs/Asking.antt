@@ -15,8 +15,10 @@ use Rattle.std.specs.Prelude as std
 use Rattle.std.specs.Prelude.{Some, None}
 use Rattle.text.specs.Found.{found_as}
 use Rattle.text.specs.Lines.{Lines, tail, line, before, lines}
-use Rattle.text.specs.Puts.{Room, Puts}
-use Rattle.text.proofs.Putting.{puts_none, puts_then, room-first, room-then}
+use Rattle.text.specs.Writes.{HasRoom, Writes}
+use Rattle.text.specs.declared.write.Writer.{Writer}
+use Rattle.text.proofs.Putting.{room-first}
+use Rattle.text.proofs.Writing.{writes_none, has-then, writes_then}
 use Rattle.lines.specs.Forms.{Query, Form, machine, part, asked}
 use Rattle.lines.specs.Read.{read, next, query, next_as}
 use Rattle.lines.specs.Gives.{query_of, rest_of, left_by}
@@ -79,35 +81,34 @@ here-prints before after s number g h =
 
 -- ---- the loop
 
--- the questions of some lines are answered up to those that are left, the first of which is line `number`. `out` was `entry`
-pub record AnsweredUpto (all : Lines) (first : ℕ) (s entry : List ℕ) (put : ℕ) (out : List ℕ) (left : Lines) (number next : ℕ) : Type 0 where
+-- the questions of some lines are answered up to those that are left, the first of which is line `number`
+pub record AnsweredUpto (all : Lines) (first : ℕ) (s : List ℕ) (entry to : Writer) (left : Lines) (number : ℕ) : Type 0 where
   pub text : List ℕ
-  pub puts : Puts entry put text out next
+  pub writes : Writes entry text to
   pub is : questions s first all ≡ text ++ questions s number left
 
 -- before the first
-pub answered-none : (all : Lines) (first : ℕ) (s entry : List ℕ) (put : ℕ) → put ≤ length entry → AnsweredUpto all first s entry put entry all first put
-answered-none all first s entry put r = record { text = []; puts = puts_none r; is = refl }
+pub answered-none : (all : Lines) (first : ℕ) (s : List ℕ) (entry : Writer) → entry.at ≤ length entry.out.now → AnsweredUpto all first s entry entry all first
+answered-none all first s entry r = record { text = []; writes = writes_none entry r; is = refl }
 
-module _ {all : Lines} {first : ℕ} {s entry : List ℕ} {put : ℕ} (room : Room entry put (questions s first all))
-    {out : List ℕ} (before : Reader) {number next : ℕ} (d : AnsweredUpto all first s entry put out (rest_of before) number next) where
+module _ {all : Lines} {first : ℕ} {s : List ℕ} (entry to : Writer) (room : HasRoom entry (questions s first all)) (before : Reader) {number : ℕ}
+    (d : AnsweredUpto all first s entry to (rest_of before) number) where
   -- there is room for what is printed from here on
-  rest-room : {rest : List ℕ} → questions s number (rest_of before) ≡ rest → Room out next rest
-  rest-room e = room-then d.text _ (rw (d.is, e) at room) d.puts
+  rest-room : {rest : List ℕ} → questions s number (rest_of before) ≡ rest → HasRoom to rest
+  rest-room e = has-then d.writes _ (rw (d.is, e) at room)
 
   -- and once it is printed, all is
-  rest-last : {rest out' : List ℕ} {next' : ℕ} → questions s number (rest_of before) ≡ rest → Puts out next rest out' next'
-      → Puts entry put (questions s first all) out' next'
+  rest-last : {rest : List ℕ} {to' : Writer} → questions s number (rest_of before) ≡ rest → Writes to rest to' → Writes entry (questions s first all) to'
   rest-last {rest} e p =
       let whole : questions s first all ≡ d.text ++ rest = d.is ∙ ap (λ (u : List ℕ). d.text ++ u) e in
-      rw whole (puts_then d.text rest (rw whole at room) d.puts p)
+      rw whole (writes_then d.writes _ (rw whole at room) p)
 
   -- at the end all are answered
-  pub answered-all : left_by before ≡ 0 → Puts entry put (questions s first all) out next
+  pub answered-all : left_by before ≡ 0 → Writes entry (questions s first all) to
   unfolding questions leftover
   answered-all h =
       let last : questions s number (rest_of before) ≡ [] = rw (none_left before h) refl in
-      rest-last last (puts_none (omega (arith, rest-room last)))
+      rest-last last (writes_none to (omega (arith, rest-room last)))
 
   module _ {after : Reader} (h : 0 < left_by before) where
     module _ {q : Question} (g : AsksGive before after (Some q)) where
@@ -116,19 +117,18 @@ module _ {all : Lines} {first : ℕ} {s entry : List ℕ} {put : ℕ} (room : Ro
       here = here-prints before after s number g h
 
       -- there is room for its answer
-      pub question-room : Room out next (answer s (query_of q))
+      pub question-room : HasRoom to (answer s (query_of q))
       question-room = room-first _ (answer s (query_of q)) _ (rest-room here)
 
       -- and it is answered
-      pub question-answered : {out' : List ℕ} {next' : ℕ} → Puts out next (answer s (query_of q)) out' next'
-          → AnsweredUpto all first s entry put out' (rest_of after) (number + 1) next'
+      pub question-answered : {to' : Writer} → Writes to (answer s (query_of q)) to' → AnsweredUpto all first s entry to' (rest_of after) (number + 1)
       question-answered p =
           let own = answer s (query_of q) in
           let whole : questions s first all ≡ (d.text ++ own) ++ questions s (suc number) (rest_of after) =
           rw append_assoc (d.is ∙ ap (λ (u : List ℕ). d.text ++ u) here) in
           record {
             text = d.text ++ own;
-            puts = puts_then d.text own (room-first _ (d.text ++ own) _ (rw whole at room)) d.puts p;
+            writes = writes_then d.writes own (room-first _ (d.text ++ own) _ (rw whole at room)) p;
             is = rw add-one whole;
           }
 
@@ -138,10 +138,9 @@ module _ {all : Lines} {first : ℕ} {s entry : List ℕ} {put : ℕ} (room : Ro
       broken = here-prints before after s number g h
 
       -- there is room for its line
-      pub illegible-room : Room out next (illegible number)
+      pub illegible-room : HasRoom to (illegible number)
       illegible-room = rest-room broken
 
       -- with which all is printed
-      pub illegible-last : {out' : List ℕ} {next' : ℕ} → Puts out next (illegible number) out' next'
-          → Puts entry put (questions s first all) out' next'
+      pub illegible-last : {to' : Writer} → Writes to (illegible number) to' → Writes entry (questions s first all) to'
       illegible-last p = rest-last broken p

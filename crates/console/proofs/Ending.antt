@@ -9,7 +9,9 @@ use lib.ListN.{length}
 use Rattle.std.specs.Prelude as std
 use Rattle.std.specs.Prelude.{Ok, Err}
 use Rattle.tree.specs.declared.Refusal.{Refusal}
-use Rattle.text.specs.Puts.{Room, Puts}
+use denote.Ref.{MutBor}
+use Rattle.text.specs.Writes.{HasRoom, Writes, Begins}
+use Rattle.text.specs.declared.write.Writer.{Writer}
 use Rattle.text.proofs.Putting.{over-start}
 use Rattle.lines.specs.Gives.{rest_of, opening_of, StartGives}
 use Rattle.lines.specs.declared.reader.Reader.{Reader}
@@ -39,25 +41,26 @@ pub output-within : {input : List ℕ} {r : std.Result (ℕ × Reader) Refusal} 
 unfolding run output
 output-within {input} {r} h g = start-prints r ∙ ap machine_run g.is ∙ rw (le-leb (length input) most_bytes h) refl
 
--- there is room for it
-pub output-room : (input out : List ℕ) {text : List ℕ} → room (length input) ≤ length out → text ≡ output input → Room out 0 text
-output-room input out {text} h e = let same : length text ≡ length (output input) = ap length e in omega (arith, output-bound input)
-
 -- a buffer that is too short is as it was
 pub run_short : {input out : List ℕ} {n : ℕ} → n ≡ room (length input) → length out < n → RunGives input out (Err (record { needed = n })) out
 run_short {input} {out} {n} e h =
     let no_room = lt-leb (room (length input)) (length out) (rw e at h) in
     record { outcome = sym no_room; count = rw no_room e; buffer = rw no_room refl; bound = output-bound input }
 
--- one that is not has the text at its start
-pub run-text : {input out out' : List ℕ} {n r : ℕ} → n ≡ room (length input) → n ≤ length out → Puts out 0 (output input) out' r
-    → RunGives input out (Ok r) out'
-run-text {input} {out} {out'} {n} {r} e h p =
-    let roomy = le-leb (room (length input)) (length out) (rw e at h) in
-    let long : r ≡ length (output input) = omega (arith, p.place) in
-    record {
-      outcome = sym roomy;
-      count = rw roomy long;
-      buffer = rw roomy (p.written ∙ over-start out (output input));
-      bound = output-bound input;
-    }
+-- one that is not has room for the text
+module _ (input : List ℕ) {out : MutBor (List ℕ)} {n : ℕ} (e : n ≡ room (length input)) (h : n ≤ length out.now) (before : Writer) (b : Begins out before) where
+  pub run_room : HasRoom before (output input)
+  run_room = rw (b.start, b.now) (omega (arith, output-bound input))
+
+  -- and has it at its start
+  pub run-text : {after : Writer} {out' : List ℕ} → Writes before (output input) after → out' ≡ after.out.now → RunGives input out.now (Ok after.at) out'
+  run-text {after} w last =
+      let roomy = le-leb (room (length input)) (length out.now) (rw e at h) in
+      let written = rw (b.start, b.now) at w.puts.written in
+      let long : after.at ≡ length (output input) = omega (arith, w.puts.place, b.start) in
+      record {
+        outcome = sym roomy;
+        count = rw roomy long;
+        buffer = rw roomy (last ∙ written ∙ over-start out.now (output input));
+        bound = output-bound input;
+      }

@@ -7,8 +7,10 @@ use mathlib.Core.List.{List, [], ◌∷◌, ◌++◌, append_assoc, append-nil}
 use lib.ListN.{length, take, drop, get_or, take-append-drop}
 use lib.Seq.{take-suc, drop-cons}
 use Rattle.text.specs.Bytes.{bytes, word_number}
-use Rattle.text.specs.Puts.{Room, Puts}
-use Rattle.text.proofs.Putting.{room-first, room-then, puts_then}
+use Rattle.text.specs.Writes.{HasRoom, Writes}
+use Rattle.text.specs.declared.write.Writer.{Writer}
+use Rattle.text.proofs.Putting.{room-first}
+use Rattle.text.proofs.Writing.{has-then, writes_then}
 use Rattle.lines.specs.Forms.{list_text}
 
 -- a number behind a space
@@ -31,17 +33,16 @@ list-more : (xs : List ℕ) (i : ℕ) → i < length xs → list_text (take (i +
 unfolding list_text
 list-more xs i h = rw (add-one, take-suc xs i 0 h, list-append, append-nil)
 
-module _ (xs : List ℕ) (i : ℕ) {l m : List ℕ} {at end : ℕ} (room : Room l at (list_text xs)) (more : i < length xs)
-    (p : Puts l at (list_text (take i xs)) m end) where
-  split : Room l at (list_text (take i xs) ++ (spaced (get_or xs i 0) ++ list_text (drop (i + 1) xs)))
+module _ (xs : List ℕ) (i : ℕ) {a b : Writer} (room : HasRoom a (list_text xs)) (more : i < length xs) (p : Writes a (list_text (take i xs)) b) where
+  split : HasRoom a (list_text (take i xs) ++ (spaced (get_or xs i 0) ++ list_text (drop (i + 1) xs)))
   split = rw (list-split xs i more) at room
 
   -- there is room for the next number
-  pub list-room : Room m end (spaced (get_or xs i 0))
-  list-room = room-first _ (spaced (get_or xs i 0)) _ (room-then _ _ split p)
+  pub list-room : HasRoom b (spaced (get_or xs i 0))
+  list-room = room-first _ (spaced (get_or xs i 0)) _ (has-then p _ split)
 
   -- and with it one more is written
-  pub list-next : {a : List ℕ} {k : ℕ} → Puts m end (spaced (get_or xs i 0)) a k → Puts l at (list_text (take (i + 1) xs)) a k
+  pub list-next : {d : Writer} → Writes b (spaced (get_or xs i 0)) d → Writes a (list_text (take (i + 1) xs)) d
   list-next q =
       let both = room-first _ (list_text (take i xs) ++ spaced (get_or xs i 0)) (list_text (drop (i + 1) xs)) (rw (← append_assoc) at split) in
-      rw (list-more xs i more) (puts_then _ _ both p q)
+      rw (list-more xs i more) (writes_then p _ both q)

@@ -9,7 +9,7 @@ mod sheet;
 mod size;
 
 ghost use Rattle.std.specs.Prelude.{◌≤◌, ◌<◌, ◌++◌, length};
-ghost use Rattle.text.specs.Puts.{Room, Puts};
+ghost use Rattle.text.specs.Writes.{HasRoom, Writes};
 ghost use Rattle.lines.specs.Gives.{rest_of};
 ghost use Rattle.lines.specs.Machine.{most};
 ghost use Rattle.console.specs.Print.{machine_line};
@@ -20,6 +20,7 @@ ghost use Rattle.tree.specs.Tables.{lent_by};
 
 use lines::Reader;
 pub use size::{MOST_BYTES, MOST_ROOM, room};
+use text::Writer;
 use tree::{Lent, Refusal};
 
 // A buffer that is too short: how many bytes it must have.
@@ -37,30 +38,32 @@ pub fn run(input: &[u8], out: &mut [u8]) -> Result<usize, Short>
     if out.len() < needed {
         return Err(Short { needed });
     }
-    Ok(text(input, out))
+    let mut to = Writer::new(out);
+    text(input, &mut to);
+    Ok(to.count())
 }
 
 // The same, where there is room.
-fn text(input: &[u8], out: &mut [u8]) -> usize
-    requires { Whole·room (length input.now) ≤ length out.old }
-    ensures { Puts out.old 0 (output input.now) out.new result }
+fn text(input: &[u8], to: &mut Writer)
+    requires { HasRoom to.old (output input.now) }
+    ensures { Writes to.old (output input.now) to.new }
 {
     if size::MOST_BYTES < input.len() {
-        return print::refusal(out, 0, Refusal::MalformedLine(1));
+        return print::refusal(to, Refusal::MalformedLine(1));
     }
     match lines::machine_line(input) {
-        Ok((n, reader)) => machine(reader, n, out),
-        Err(why) => print::refusal(out, 0, why),
+        Ok((n, reader)) => machine(reader, n, to),
+        Err(why) => print::refusal(to, why),
     }
 }
 
 // A machine of n parts, whose count has passed, from the line after its line on.
-fn machine(reader: Reader, n: usize, out: &mut [u8]) -> usize
+fn machine(reader: Reader, n: usize, to: &mut Writer)
     requires n_nonzero { (0 < n) × (n ≤ most) }
-    requires room { Room out.old 0 (machine_line n ++ sheet_run (parts n 0 (rest_of reader))) }
-    ensures { Puts out.old 0 (machine_line n ++ sheet_run (parts n 0 (rest_of reader.entry))) out.new result }
+    requires room { HasRoom to.old (machine_line n ++ sheet_run (parts n 0 (rest_of reader))) }
+    ensures { Writes to.old (machine_line n ++ sheet_run (parts n 0 (rest_of reader.entry))) to.new }
 {
-    let put = print::machine(out, 0, n);
+    print::machine(to, n);
     let mut parents = [0; size::PARTS];
     let mut label = [0; size::LABEL];
     let mut tour = [0; size::TOUR];
@@ -79,8 +82,7 @@ fn machine(reader: Reader, n: usize, out: &mut [u8]) -> usize
         &mut lift[..lift_cells],
         &mut order[..n],
         &mut work[..work_cells],
-        out,
-        put,
+        to,
     )
 }
 
@@ -93,16 +95,15 @@ fn read_sheet(
     lift: &mut [u16],
     order: &mut [u16],
     work: &mut [u16],
-    out: &mut [u8],
-    put: usize,
-) -> usize
+    to: &mut Writer,
+)
     requires sized { Sized (lent_by parents.old label.old tour.old lift.old order.old) work.old }
-    requires room { Room out.old put (sheet_run (parts (length parents.old) 0 (rest_of reader))) }
-    ensures { Puts out.old put (sheet_run (parts (length parents.old) 0 (rest_of reader.entry))) out.new result }
+    requires room { HasRoom to.old (sheet_run (parts (length parents.old) 0 (rest_of reader))) }
+    ensures { Writes to.old (sheet_run (parts (length parents.old) 0 (rest_of reader.entry))) to.new }
 {
     match sheet::part_lines(&mut reader, parents) {
-        Ok(()) => test_sheet(reader, parents, label, tour, lift, order, work, out, put),
-        Err(number) => print::refusal(out, put, Refusal::MalformedLine(number)),
+        Ok(()) => test_sheet(reader, parents, label, tour, lift, order, work, to),
+        Err(number) => print::refusal(to, Refusal::MalformedLine(number)),
     }
 }
 
@@ -115,15 +116,14 @@ fn test_sheet(
     lift: &mut [u16],
     order: &mut [u16],
     work: &mut [u16],
-    out: &mut [u8],
-    put: usize,
-) -> usize
+    to: &mut Writer,
+)
     requires sized { Sized (lent_by parents.now label.old tour.old lift.old order.old) work.old }
-    requires room { Room out.old put (sheet_run (Run·sheet parents.now (rest_of reader))) }
-    ensures { Puts out.old put (sheet_run (Run·sheet parents.now (rest_of reader.entry))) out.new result }
+    requires room { HasRoom to.old (sheet_run (Run·sheet parents.now (rest_of reader))) }
+    ensures { Writes to.old (sheet_run (Run·sheet parents.now (rest_of reader.entry))) to.new }
 {
     if let Err(why) = tables::build(parents, label, tour, lift, order, work) {
-        return print::refusal(out, put, why);
+        return print::refusal(to, why);
     }
     let lent = Lent {
         parents,
@@ -132,5 +132,5 @@ fn test_sheet(
         lift,
         order,
     };
-    ask::questions(reader, parents.len() + 2, lent, work, out, put)
+    ask::questions(reader, parents.len() + 2, lent, work, to)
 }

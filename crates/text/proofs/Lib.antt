@@ -2,6 +2,7 @@
 pub mod Decimals
 pub mod Numerals
 pub mod Putting
+pub mod Writing
 pub mod Printing
 pub mod Finding
 pub mod Ends

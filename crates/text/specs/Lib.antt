@@ -3,3 +3,4 @@ pub mod Fields
 pub mod Lines
 pub mod Found
 pub mod Puts
+pub mod Writes

@@ -8,24 +8,24 @@ use Rattle.console.proofs.Asking.{answered-none, answered-all, question-room, qu
 use Rattle.console.proofs.ask.questions.Goals as goal
 
 pub loop-reader-init : goal.loop-reader-init
-loop-reader-init c = record { answered = answered-none _ _ _ _ _ (omega arith); numbered = search rules }
+loop-reader-init c = record { answered = answered-none _ _ _ c.args.to.now (omega arith); numbered = search rules }
 
 pub refusal-requires : goal.refusal-requires
-refusal-requires c = illegible-room c.requires.room _ c.loop-reader.invariant.answered c.loop-reader-test.ensures c.in_default.ensures
+refusal-requires c = illegible-room c.args.to.now c.loop-reader.to c.requires.room c.loop-reader.reader c.loop-reader.invariant.answered c.loop-reader-test.ensures c.in_default.ensures
 
 pub returns-in_default : goal.returns-in_default
 returns-in_default c =
-    illegible-last c.requires.room _ c.loop-reader.invariant.answered c.loop-reader-test.ensures c.in_default.ensures c.refusal.ensures
+    illegible-last c.args.to.now c.loop-reader.to c.requires.room c.loop-reader.reader c.loop-reader.invariant.answered c.loop-reader-test.ensures c.in_default.ensures c.refusal.ensures
 
-pub answer-next-requires-clause-room : goal.answer-next-requires-clause-room
-answer-next-requires-clause-room c =
-    question-room c.requires.room _ c.loop-reader.invariant.answered c.loop-reader-test.ensures c.in-Some.ensures
+pub answer-requires-clause-room : goal.answer-requires-clause-room
+answer-requires-clause-room c =
+    question-room c.args.to.now c.loop-reader.to c.requires.room c.loop-reader.reader c.loop-reader.invariant.answered c.loop-reader-test.ensures c.in-Some.ensures
 
 pub loop-reader-preserved : goal.loop-reader-preserved
 loop-reader-preserved c = record {
-  answered = question-answered c.requires.room _ c.loop-reader.invariant.answered c.loop-reader-test.ensures c.in-Some.ensures c.answer-next.ensures;
+  answered = question-answered c.args.to.now c.loop-reader.to c.requires.room c.loop-reader.reader c.loop-reader.invariant.answered c.loop-reader-test.ensures c.in-Some.ensures c.answer.ensures;
   numbered = omega (arith, nearer c.in-Some.ensures);
 }
 
 pub returns : goal.returns
-returns c = answered-all c.requires.room c.loop-reader.reader c.loop-reader.invariant.answered c.loop-reader-test.ensures
+returns c = answered-all c.args.to.now c.loop-reader.to c.requires.room c.loop-reader.reader c.loop-reader.invariant.answered c.loop-reader-test.ensures

@@ -8,7 +8,7 @@ use Rattle.console.proofs.ask.questions.Given as goal
 
 abbrev pub invariant-loop-reader : goal.invariant-loop-reader
 invariant-loop-reader l = record {
-  answered : AnsweredUpto (rest_of l.initial.reader) l.first l.lent.parents.now l.initial.out l.put l.out (rest_of l.reader) l.number l.next;
+  answered : AnsweredUpto (rest_of l.initial.reader) l.first l.lent.parents.now l.initial.to l.to (rest_of l.reader) l.number;
   numbered : l.number + left_by l.reader ≤ l.first + left_by l.initial.reader;
 }
 

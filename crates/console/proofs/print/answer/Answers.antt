@@ -1,25 +1,25 @@
 -- `console::print::answer` meets its contract: the writes, one behind the other, are the text.
 -- Assumes nothing.
 use Rattle.text.specs.Bytes.{bytes, word_number}
-use Rattle.text.proofs.Putting.{room-first, room-then, puts_then}
+use Rattle.text.proofs.Putting.{room-first}
+use Rattle.text.proofs.Writing.{has-then, writes_then}
 use Rattle.console.specs.Print.{answer_text}
 use Rattle.console.proofs.print.answer.Goals as goal
 
-pub put_word_number-a-requires : goal.put_word_number-a-requires
+pub word_number-requires : goal.word_number-requires
 unfolding answer_text bytes
-put_word_number-a-requires c = room-first _ (word_number (bytes " (carrier ") c.args.found.carrier) _ c.requires
+word_number-requires c = room-first _ (word_number (bytes " (carrier ") c.args.found.carrier) _ c.requires
 
-pub put_word_number-b-requires : goal.put_word_number-b-requires
+pub word_number-requires-2 : goal.word_number-requires-2
 unfolding answer_text bytes
-put_word_number-b-requires c =
-    room-first _ (word_number (bytes ") (by ") c.args.found.left) _ (room-then _ _ c.requires c.put_word_number-a.ensures)
+word_number-requires-2 c = room-first _ (word_number (bytes ") (by ") c.args.found.left) _ (has-then c.word_number.ensures _ c.requires)
 
-pub put_word_number-requires : goal.put_word_number-requires
+pub word_number-requires-3 : goal.word_number-requires-3
 unfolding answer_text bytes
-put_word_number-requires c = room-then _ _ (room-then _ _ c.requires c.put_word_number-a.ensures) c.put_word_number-b.ensures
+word_number-requires-3 c = has-then c.word_number-2.ensures _ (has-then c.word_number.ensures _ c.requires)
 
 pub returns : goal.returns
 unfolding answer_text bytes
 returns c =
-    let behind = room-then _ _ c.requires c.put_word_number-a.ensures in
-    puts_then _ _ c.requires c.put_word_number-a.ensures (puts_then _ _ behind c.put_word_number-b.ensures c.put_word_number.ensures)
+    let behind = has-then c.word_number.ensures _ c.requires in
+    writes_then c.word_number.ensures _ c.requires (writes_then c.word_number-2.ensures _ behind c.word_number-3.ensures)

@@ -2,38 +2,38 @@
 -- Assumes nothing.
 use mathlib.Core.List.{◌++◌}
 use Rattle.text.specs.Bytes.{bytes, word_number}
-use Rattle.text.specs.Puts.{Room}
-use Rattle.text.proofs.Putting.{room-first, room-then, puts_then}
+use Rattle.text.proofs.Putting.{room-first}
+use Rattle.text.proofs.Writing.{has-then, writes_then}
+use Rattle.text.specs.Writes.{HasRoom}
 use Rattle.lines.specs.Forms.{list_text}
 use Rattle.console.specs.Print.{many_line}
 use Rattle.console.proofs.print.many.Goals as goal
-use Rattle.console.proofs.print.many.Goals.{After-list-b}
+use Rattle.console.proofs.print.many.Goals.{After-list}
 
 -- behind the numbers there is room for the rest of the line
-room : (c : After-list-b) → Room c.list-b.new.out c.list-b.result (word_number (bytes " (carrier ") c.args.carrier ++ bytes "))\n")
+room : (c : After-list) → HasRoom c.list.new.to (word_number (bytes " (carrier ") c.args.carrier ++ bytes "))\n")
 unfolding many_line bytes
-room c = room-then _ _ (room-then _ _ c.requires c.put_word-a.ensures) c.list-b.ensures
+room c = has-then c.list.ensures _ (has-then c.word.ensures _ c.requires)
 
-pub put_word-a-requires : goal.put_word-a-requires
+pub word-requires : goal.word-requires
 unfolding many_line bytes
-put_word-a-requires c = room-first _ (bytes "(many") _ c.requires
+word-requires c = room-first _ (bytes "(many") _ c.requires
 
-pub list-b-requires : goal.list-b-requires
+pub list-requires : goal.list-requires
 unfolding many_line bytes
-list-b-requires c = room-first _ (list_text c.args.question.now) _ (room-then _ _ c.requires c.put_word-a.ensures)
+list-requires c = room-first _ (list_text c.args.question.now) _ (has-then c.word.ensures _ c.requires)
 
-pub put_word_number-c-requires : goal.put_word_number-c-requires
+pub word_number-requires : goal.word_number-requires
 unfolding bytes
-put_word_number-c-requires c =
-    room-first _ (word_number (bytes " (carrier ") c.args.carrier) _ (room (goal.at.put_word_number-c-requires c).After-list-b)
+word_number-requires c = room-first _ (word_number (bytes " (carrier ") c.args.carrier) _ (room (goal.at.word_number-requires c).After-list)
 
-pub put_word-requires : goal.put_word-requires
+pub word-requires-2 : goal.word-requires-2
 unfolding bytes
-put_word-requires c = room-then _ (bytes "))\n") (room (goal.at.put_word-requires c).After-list-b) c.put_word_number-c.ensures
+word-requires-2 c = has-then c.word_number.ensures (bytes "))\n") (room (goal.at.word-requires-2 c).After-list)
 
 pub returns : goal.returns
 unfolding many_line bytes
 returns c =
-    let behind = room-then _ _ c.requires c.put_word-a.ensures in
-    let end = puts_then _ _ (room (goal.at.returns c).After-list-b) c.put_word_number-c.ensures c.put_word.ensures in
-    puts_then _ _ c.requires c.put_word-a.ensures (puts_then _ _ behind c.list-b.ensures end)
+    let behind = has-then c.word.ensures _ c.requires in
+    let end = writes_then c.word_number.ensures _ (room (goal.at.returns c).After-list) c.word-2.ensures in
+    writes_then c.word.ensures _ c.requires (writes_then c.list.ensures _ behind end)

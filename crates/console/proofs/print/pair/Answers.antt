@@ -2,44 +2,43 @@
 -- Assumes nothing.
 use mathlib.Core.List.{◌++◌}
 use Rattle.text.specs.Bytes.{bytes, word_number}
-use Rattle.text.specs.Puts.{Room}
-use Rattle.text.proofs.Putting.{room-first, room-then, puts_then}
+use Rattle.text.proofs.Putting.{room-first}
+use Rattle.text.proofs.Writing.{has-then, writes_then}
+use Rattle.text.specs.Writes.{HasRoom}
 use Rattle.console.specs.Print.{answer_text, pair_line}
 use Rattle.console.proofs.print.pair.Goals as goal
-use Rattle.console.proofs.print.pair.Goals.{After-answer-c}
+use Rattle.console.proofs.print.pair.Goals.{After-answer}
 
 -- behind the answer there is room for the rest of the line
-room : (c : After-answer-c) → Room c.answer-c.new.out c.answer-c.result (word_number (bytes ") (lifts ") c.args.lifts ++ bytes "))\n")
+room : (c : After-answer) → HasRoom c.answer.new.to (word_number (bytes ") (lifts ") c.args.lifts ++ bytes "))\n")
 unfolding pair_line bytes
-room c = room-then _ _ (room-then _ _ (room-then _ _ c.requires c.put_word_number-a.ensures) c.put_word_number-b.ensures) c.answer-c.ensures
+room c = has-then c.answer.ensures _ (has-then c.word_number-2.ensures _ (has-then c.word_number.ensures _ c.requires))
 
-pub put_word_number-a-requires : goal.put_word_number-a-requires
+pub word_number-requires : goal.word_number-requires
 unfolding pair_line bytes
-put_word_number-a-requires c = room-first _ (word_number (bytes "(pair ") c.args.x) _ c.requires
+word_number-requires c = room-first _ (word_number (bytes "(pair ") c.args.x) _ c.requires
 
-pub put_word_number-b-requires : goal.put_word_number-b-requires
+pub word_number-requires-2 : goal.word_number-requires-2
 unfolding pair_line bytes
-put_word_number-b-requires c = room-first _ (word_number (bytes " ") c.args.y) _ (room-then _ _ c.requires c.put_word_number-a.ensures)
+word_number-requires-2 c = room-first _ (word_number (bytes " ") c.args.y) _ (has-then c.word_number.ensures _ c.requires)
 
-pub answer-c-requires : goal.answer-c-requires
+pub answer-requires : goal.answer-requires
 unfolding pair_line bytes
-answer-c-requires c =
-    room-first _ (answer_text _) _ (room-then _ _ (room-then _ _ c.requires c.put_word_number-a.ensures) c.put_word_number-b.ensures)
+answer-requires c = room-first _ (answer_text _) _ (has-then c.word_number-2.ensures _ (has-then c.word_number.ensures _ c.requires))
 
-pub put_word_number-d-requires : goal.put_word_number-d-requires
+pub word_number-requires-3 : goal.word_number-requires-3
 unfolding bytes
-put_word_number-d-requires c =
-    room-first _ (word_number (bytes ") (lifts ") c.args.lifts) _ (room (goal.at.put_word_number-d-requires c).After-answer-c)
+word_number-requires-3 c = room-first _ (word_number (bytes ") (lifts ") c.args.lifts) _ (room (goal.at.word_number-requires-3 c).After-answer)
 
-pub put_word-requires : goal.put_word-requires
+pub word-requires : goal.word-requires
 unfolding bytes
-put_word-requires c = room-then _ (bytes "))\n") (room (goal.at.put_word-requires c).After-answer-c) c.put_word_number-d.ensures
+word-requires c = has-then c.word_number-3.ensures (bytes "))\n") (room (goal.at.word-requires c).After-answer)
 
 pub returns : goal.returns
 unfolding pair_line bytes
 returns c =
-    let behind-x = room-then _ _ c.requires c.put_word_number-a.ensures in
-    let behind-y = room-then _ _ behind-x c.put_word_number-b.ensures in
-    let from-lifts = puts_then _ _ (room (goal.at.returns c).After-answer-c) c.put_word_number-d.ensures c.put_word.ensures in
-    let from-carrier = puts_then _ _ behind-y c.answer-c.ensures from-lifts in
-    puts_then _ _ c.requires c.put_word_number-a.ensures (puts_then _ _ behind-x c.put_word_number-b.ensures from-carrier)
+    let behind-x = has-then c.word_number.ensures _ c.requires in
+    let behind-y = has-then c.word_number-2.ensures _ behind-x in
+    let from-lifts = writes_then c.word_number-3.ensures _ (room (goal.at.returns c).After-answer) c.word.ensures in
+    let from-carrier = writes_then c.answer.ensures _ behind-y from-lifts in
+    writes_then c.word_number.ensures _ c.requires (writes_then c.word_number-2.ensures _ behind-x from-carrier)
