@@ -1,5 +1,5 @@
 // Stretches of cells: filling one, or all, clearing all, copying one from another buffer, finding the first cell in which two differ, and the first that is
-// too large.
+// too large. A stretch is told by where it begins and how many cells it has, and is not lent as a slice, since contracts speak of the places of a whole table.
 
 #![tactic(auto)]
 
@@ -18,7 +18,7 @@ pub fn fill(cells: &mut [u16], first: usize, count: usize, value: u16)
     cells[first..first + count].fill(value);
 }
 
-// Stores `value` in every cell.
+// Stores `value` in every cell. The slices' own `fill` says it cell by cell, of clones; here it is one equation.
 pub fn fill_all(cells: &mut [u16], value: u16)
     ensures { cells.new ≡ replicate (length cells.old) value }
 {

@@ -86,7 +86,7 @@ fn machine(reader: Reader, n: usize, to: &mut Writer)
     )
 }
 
-// Reads the part lines, and goes on with the sheet.
+// Reads the part lines, and goes on with the sheet. The tables are lent one by one, as `tables::build` takes them.
 fn read_sheet(
     mut reader: Reader,
     parents: &mut [u16],

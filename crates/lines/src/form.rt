@@ -127,6 +127,7 @@ fn listed(line: &[u8], at: usize) -> Option<(Numbers, usize)>
 {
     let mut numbers = Numbers::new();
     let mut i = at;
+    // No index is counted: the list says when it is full, and a line's end may come before.
     while !numbers.is_full() {
         let Some(start) = text::find_word(line, i, b" ") else {
             return Some((numbers, i));

@@ -13,6 +13,7 @@ pub(crate) fn first_cycle(parents: &[u16], root: usize, work: &mut [u16]) -> usi
     let n = parents.len();
     cells::copy(work, 0, parents, 0, n);
     let mut steps = 1;
+    // No index is counted: a round makes every link at least four times as long.
     while steps < n {
         if jump_rising(parents, root, work) == 0 {
             return n;

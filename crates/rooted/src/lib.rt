@@ -25,7 +25,7 @@ pub fn root(parents: &[u16]) -> usize
 
 // Tests 4 to 7, the parts counted from `shift` on. The loop test keeps its links in `work`; where the sheet is accepted and an order is asked for, the first
 // n − 1 cells are a bottom-up order afterwards, and the third n the entries beside it. Whether tests 4 to 6 pass is told by one pass; only where they do not,
-// the first that fails is looked for.
+// the first that fails is looked for. A flag, since two functions in its place would differ in one call only, and a closure would carry `first_lost`'s contract.
 pub fn test_tree(
     parents: &[u16],
     shift: usize,

@@ -74,6 +74,7 @@ fn sparse(parents: &[u16], label: &[u16], table: &mut [u16], work: &mut [u16])
     let mut at = m + n;
     let mut half = 1;
     let mut from = 2 * n;
+    // No index is counted: blocks grow twofold from row to row.
     while 2 * half <= m {
         rows::sparse::fill_row(parents, table, at, half, from, work);
         rows::sparse::next_levels(parents, half, from, work);
@@ -92,6 +93,7 @@ pub(crate) fn lift(parents: &[u16], table: &mut [u16], work: &mut [u16])
     cells::copy(table, 0, parents, 0, n);
     let mut at = 0;
     let mut power = 1;
+    // No index is counted: lifts grow twofold from row to row.
     while 2 * power <= n {
         rows::lifts::next_lift(parents, table, at, work);
         at += n;

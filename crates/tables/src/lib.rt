@@ -27,7 +27,8 @@ pub fn check(parents: &[u16], work: &mut [u16]) -> Result<(), Refusal>
     admit_sheet(parents, 0, work)
 }
 
-// The same for every call that is lent no tables: tests 1 to 7, of a call whose lowest further buffer that does not fit is `further`, or 0. It is for the calls
+// The same for every call that is lent no tables: tests 1 to 7, of a call whose lowest further buffer that does not fit is `further`, or 0, a number as
+// `first_unfit` of tree/specs/Buffers states it. It is for the calls
 // of other crates to begin with, and no call of a user's: the further buffers are not lent to it, so that number is taken as it is given.
 pub fn admit_sheet(parents: &[u16], further: usize, work: &mut [u16]) -> Result<(), Refusal>
     ensures { SheetGives parents.now further work.old result work.new }
@@ -52,6 +53,7 @@ pub fn admit_bottom_up(parents: &[u16], further: usize, work: &mut [u16]) -> Res
 
 // Builds the four tables of the sheet `parents`: tests 1 to 7, and an accepted call fills every cell of `label`, `tour`, `lift` and `order`. A refused
 // call changes none of them. `work` is as after `check`.
+// The tables are lent one by one: a struct of four `&mut` would be used up by the call, and taken apart again where each is filled from the one before it.
 pub fn build(
     parents: &[u16],
     label: &mut [u16],

@@ -119,6 +119,7 @@ fn sparse(parents: &[u16], label: &[u16], table: &[u16], work: &mut [u16]) -> us
         return at + same;
     }
     let mut from = 2 * n;
+    // No index is counted: blocks grow twofold from row to row.
     while 2 * half <= m {
         let same = rows::sparse::agree_row(parents, table, at, half, from, work);
         if same < m {
@@ -144,6 +145,7 @@ pub(crate) fn lift(parents: &[u16], table: &[u16], work: &mut [u16]) -> usize
     }
     let mut at = 0;
     let mut power = 1;
+    // No index is counted: lifts grow twofold from row to row.
     while 2 * power <= n {
         let same = rows::lifts::agree_lift(parents, table, at, work);
         if same < n {

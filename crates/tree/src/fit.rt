@@ -3,7 +3,8 @@
 ghost use Rattle.std.specs.Prelude.{◌≡◌};
 ghost use Rattle.tree.specs.Buffers.{exact_fit, first_unfit, lower_unfit};
 
-// A lent buffer's number, and whether the buffer has its exact length.
+// A lent buffer's number, and whether the buffer has its exact length. The number is no enum, and 0 says that all fit: `first_unfit` and `lower_unfit` of
+// specs/Buffers state it so, and the tests of specs/Tests take it.
 #[derive(Clone, Copy)]
 pub struct Fit {
     pub buffer: usize,
