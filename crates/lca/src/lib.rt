@@ -278,10 +278,7 @@ pub extern "C" fn lca_totals(
 fn returned(r: Result<(), Refusal>, value: &mut u64) -> u32
     ensures { (result ≡ number_in (verdict_of r)) × (value.new ≡ value_in (verdict_of r) 0) }
 {
-    match r {
-        Ok(()) => accept(0, value),
-        Err(why) => refuse(why, value),
-    }
+    traced(r.map(|()| 0), value)
 }
 
 // A trace as C sees it.
@@ -299,16 +296,8 @@ fn located(r: Result<Located, Refusal>, start: &mut u64, value: &mut u64) -> u32
     ensures { (result ≡ number_in (located_count r).0) × (value.new ≡ value_in (located_count r).0 (located_count r).1)
         × (start.new ≡ start_of r) }
 {
-    match r {
-        Ok(found) => {
-            *start = found.start as u64;
-            accept(found.count, value)
-        }
-        Err(why) => {
-            *start = 0;
-            refuse(why, value)
-        }
-    }
+    *start = r.map_or(0, |found| found.start as u64);
+    traced(r.map(|found| found.count), value)
 }
 
 // An accepted call, with what it counts.
