@@ -53,7 +53,8 @@ pub fn admit_bottom_up(parents: &[u16], further: usize, work: &mut [u16]) -> Res
 
 // Builds the four tables of the sheet `parents`: tests 1 to 7, and an accepted call fills every cell of `label`, `tour`, `lift` and `order`. A refused
 // call changes none of them. `work` is as after `check`.
-// The tables are lent one by one: a struct of four `&mut` would be used up by the call, and taken apart again where each is filled from the one before it.
+// The tables are lent one by one: a struct of four `&mut` was tried, and the toolchain's borrow checker does not cover a call that is handed one of its fields
+// while another is read.
 pub fn build(
     parents: &[u16],
     label: &mut [u16],
