@@ -39,7 +39,13 @@ fn answer_in(
 }
 
 // What came of a trail.
-fn traced(out: Stdout, r: Result<usize, Refusal>, work: &[u16], answer: &[u16], trail: &[u16]) -> io::Result<()> {
+fn traced(
+    out: Stdout,
+    r: Result<usize, Refusal>,
+    work: &[u16],
+    answer: &[u16],
+    trail: &[u16],
+) -> io::Result<()> {
     let outcome = r.map(|_| ());
     let answered = Answered {
         outcome,

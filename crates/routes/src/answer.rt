@@ -18,12 +18,7 @@ use tree::OwnTables;
 const NONE: u16 = 65535;
 
 // Stores the answer to each pair: its carrier, and the branches towards x and y.
-pub(crate) fn pairs(
-    route: Route,
-    sheet: &OwnTables<'_>,
-    question: &[u16],
-    answer: &mut [u16],
-)
+pub(crate) fn pairs(route: Route, sheet: &OwnTables<'_>, question: &[u16], answer: &mut [u16])
     requires { Listed sheet.now question.now × (length answer.old ≡ answer_cells (length question.now)) }
     ensures { answer.new ≡ each_answer (answer_by (rule_of route) (own sheet.now)) question.now }
 {
@@ -36,14 +31,7 @@ pub(crate) fn pairs(
 }
 
 // Stores the answer to one pair, in the cells from `at` on.
-fn pair(
-    route: Route,
-    sheet: &OwnTables<'_>,
-    x: usize,
-    y: usize,
-    at: usize,
-    answer: &mut [u16],
-)
+fn pair(route: Route, sheet: &OwnTables<'_>, x: usize, y: usize, at: usize, answer: &mut [u16])
     requires { Pair sheet.now x y × (at + 2 < length answer.old) }
     ensures { answer.new ≡ stored_answer answer.old at (answer_by (rule_of route) (own sheet.now) x y) }
 {
@@ -64,12 +52,7 @@ fn node(question: &[u16], at: usize) -> usize
 }
 
 // The carrier of one pair by the route named.
-fn carrier(
-    route: Route,
-    sheet: &OwnTables<'_>,
-    x: usize,
-    y: usize,
-) -> usize
+fn carrier(route: Route, sheet: &OwnTables<'_>, x: usize, y: usize) -> usize
     requires { Pair sheet.now x y }
     ensures { IsBelow (rule_of route (own sheet.now) x y) (length sheet.now) result }
 {
@@ -102,11 +85,7 @@ pub(crate) fn trail(
 }
 
 // Stores the carrier of a list: that of its first and last in preorder, by the tour.
-pub(crate) fn list(
-    sheet: &OwnTables<'_>,
-    question: &[u16],
-    answer: &mut [u16],
-)
+pub(crate) fn list(sheet: &OwnTables<'_>, question: &[u16], answer: &mut [u16])
     requires { Listed sheet.now question.now × (length answer.old ≡ 1) }
     ensures { answer.new ≡ lca sheet.now question.now ∷ [] }
 {
