@@ -1,5 +1,5 @@
-// Stretches of cells: filling one, or all, clearing all, copying one from another buffer, finding the first cell in which two differ, and the first that is
-// too large. A stretch is told by where it begins and how many cells it has, and is not lent as a slice, since contracts speak of the places of a whole table.
+// Stretches of cells: filling one, or all, clearing all, copying one from another buffer, finding the first cell in which two differ, the first that is
+// too large, and whether all hold one value. A stretch is told by where it begins and how many cells it has, and is not lent as a slice, since contracts speak of the places of a whole table.
 
 #![tactic(auto)]
 
@@ -7,7 +7,7 @@ ghost use Rattle.std.specs.Prelude.{◌≡◌, true, ℕ, ◌+◌, ◌≤◌, �
 ghost use Rattle.tree.specs.Scan.{least};
 ghost use Rattle.cells.specs.Cells.{Filled, Copied, Agree};
 
-// No node: what a cell holds in whose place there is none.
+// No cell: what a cell of a table holds where there is none.
 pub const NONE: u16 = 65535;
 
 // Stores `value` in the `count` cells from `first` on.
@@ -29,7 +29,7 @@ pub fn fill_all(cells: &mut [u16], value: u16)
 pub fn clear(buffer: &mut [u16])
     ensures { buffer.new ≡ replicate (length buffer.old) 0 }
 {
-    buffer.fill(0);
+    fill_all(buffer, 0);
 }
 
 // Copies the `count` cells of `from` from `start` on to `to`, from `at` on.

@@ -19,7 +19,7 @@ use tree::{Lent, Refusal};
 pub(crate) fn questions(
     mut reader: Reader,
     first: usize,
-    lent: Lent<'_>,
+    lent: Lent<'_, '_>,
     work: &mut [u16],
     to: &mut Writer,
 )
@@ -47,7 +47,7 @@ fn question(reader: &mut Reader) -> Option<Question>
 }
 
 // Answers a question.
-fn answer(q: &Question, lent: Lent<'_>, work: &mut [u16], to: &mut Writer)
+fn answer(q: &Question, lent: Lent<'_, '_>, work: &mut [u16], to: &mut Writer)
     requires stands { Stands (lent_in lent) work.old }
     requires room { HasRoom to.old (Run·answer lent.parents.now (query_of q.now)) }
     ensures { Writes to.old (Run·answer lent.entry.parents.now (query_of q.now)) to.new }
@@ -59,7 +59,7 @@ fn answer(q: &Question, lent: Lent<'_>, work: &mut [u16], to: &mut Writer)
 }
 
 // Answers a pair: its carrier and both branches are by labels.
-fn pair(x: u16, y: u16, lent: Lent<'_>, work: &mut [u16], to: &mut Writer)
+fn pair(x: u16, y: u16, lent: Lent<'_, '_>, work: &mut [u16], to: &mut Writer)
     requires stands { Stands (lent_in lent) work.old }
     requires room { HasRoom to.old (Run·answer lent.parents.now (Forms·pair x y)) }
     ensures { Writes to.old (Run·answer lent.entry.parents.now (Forms·pair x y)) to.new }
@@ -77,7 +77,7 @@ fn pair(x: u16, y: u16, lent: Lent<'_>, work: &mut [u16], to: &mut Writer)
 }
 
 // The same once these are found: its lifts are those of its trail.
-fn lifted(x: u16, y: u16, found: PairAnswer, lent: Lent<'_>, work: &mut [u16], to: &mut Writer)
+fn lifted(x: u16, y: u16, found: PairAnswer, lent: Lent<'_, '_>, work: &mut [u16], to: &mut Writer)
     requires found { Found lent.parents.now x y found }
     requires stands { Stands (lent_in lent) work.old }
     requires room { HasRoom to.old (Run·answer lent.parents.now (Forms·pair x y)) }
@@ -92,7 +92,7 @@ fn lifted(x: u16, y: u16, found: PairAnswer, lent: Lent<'_>, work: &mut [u16], t
 }
 
 // Answers a list.
-fn many(question: &[u16], lent: Lent<'_>, work: &mut [u16], to: &mut Writer)
+fn many(question: &[u16], lent: Lent<'_, '_>, work: &mut [u16], to: &mut Writer)
     requires stands { Stands (lent_in lent) work.old }
     requires room { HasRoom to.old (Run·answer lent.parents.now (Forms·many question.now)) }
     ensures { Writes to.old (Run·answer lent.entry.parents.now (Forms·many question.now)) to.new }

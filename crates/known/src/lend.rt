@@ -49,7 +49,7 @@ pub struct Buffers<'a> {
 
 impl Buffers<'_> {
     // A sheet with what the buffers hold.
-    pub fn tables<'b>(&'b self, parents: &'b [u16]) -> Lent<'b> {
+    pub fn tables<'b>(&'b self, parents: &'b [u16]) -> Lent<'b, 'b> {
         Lent {
             parents,
             label: self.label,

@@ -2,6 +2,7 @@
 // (include/lca.h). Each returns the number of its refusal, 0 where it is accepted, and stores at `value` the refusal's place, or 0 where it is accepted; of an
 // accepted trail the count of its lifts, of an accepted subtree that of its parts. What it does besides is what the library's call of that name does, by the
 // same contract.
+// C lends a sheet and its tables one by one; each call makes one value of them.
 // `lca_version` is no such call: it says which version of this interface the archive has.
 
 #![tactic(auto)]
@@ -226,7 +227,7 @@ pub extern "C" fn lca_trail(
         order,
     };
     let r = routes::trail(lent, work, question, answer, trail);
-    traced(r, value)
+    counted(r, value)
 }
 
 // What a part carries: `subtrees::locate`. A refusal has no start: 0 is stored at `start`.
@@ -278,11 +279,11 @@ pub extern "C" fn lca_totals(
 fn returned(r: Result<(), Refusal>, value: &mut u64) -> u32
     ensures { (result ≡ number_in (verdict_of r)) × (value.new ≡ value_in (verdict_of r) 0) }
 {
-    traced(r.map(|()| 0), value)
+    counted(r.map(|()| 0), value)
 }
 
-// A trace as C sees it.
-fn traced(r: Result<usize, Refusal>, value: &mut u64) -> u32
+// An answer that counts as C sees it.
+fn counted(r: Result<usize, Refusal>, value: &mut u64) -> u32
     ensures { (result ≡ number_in (traced_of r).0) × (value.new ≡ value_in (traced_of r).0 (traced_of r).1) }
 {
     match r {
@@ -297,7 +298,7 @@ fn located(r: Result<Located, Refusal>, start: &mut u64, value: &mut u64) -> u32
         × (start.new ≡ start_of r) }
 {
     *start = r.map_or(0, |found| found.start as u64);
-    traced(r.map(|found| found.count), value)
+    counted(r.map(|found| found.count), value)
 }
 
 // An accepted call, with what it counts.

@@ -16,7 +16,7 @@ pub fn cut_mut(cells: &mut [u16], count: usize) -> &mut [u16] {
 }
 
 // The sheet and its tables, to be read: they are lent out of the sheet's own, which stand end to end.
-pub fn tables<'a>(held: Held<'a>, lent: Lent) -> tree::Lent<'a> {
+pub fn tables<'a>(held: Held<'a>, lent: Lent) -> tree::Lent<'a, 'a> {
     let n = held.sheet.n;
     let tour = fit::label(n);
     let lift = tour.saturating_add(fit::tour(n));

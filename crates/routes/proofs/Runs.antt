@@ -22,14 +22,14 @@ use Rattle.routes.proofs.trail.Reads as by-trail
 -- ---- the calls that are lent a sheet, four tables, work, a question and an answer: pairs by each route, and a list
 
 -- a run of the call that promises this
-pub record Run (promises : Out 4 list.ps list.r) : Type 0 where
-  pub lifetimes : Lfts 4
+pub record Run (promises : Out 5 list.ps list.r) : Type 0 where
+  pub lifetimes : Lfts 5
   pub passed : Dens lifetimes list.ps
   pub result : Outcome
-  pub left : AtExit (ended_of 4 list.ps list.r) lifetimes
+  pub left : AtExit (ended_of 5 list.ps list.r) lifetimes
   pub kept : promises lifetimes passed result left
 
-module _ {promises : Out 4 list.ps list.r} (run : Run promises) where
+module _ {promises : Out 5 list.ps list.r} (run : Run promises) where
   -- what it was lent
   abbrev pub asked : Asked
   asked =
@@ -57,10 +57,10 @@ ListRun = Run by-list.Learnt
 
 -- a run of `trail`
 pub record TrailRun : Type 0 where
-  pub lifetimes : Lfts 5
+  pub lifetimes : Lfts 6
   pub passed : Dens lifetimes trail.ps
   pub result : Result ℕ Refusal
-  pub left : AtExit (ended_of 5 trail.ps trail.r) lifetimes
+  pub left : AtExit (ended_of 6 trail.ps trail.r) lifetimes
   pub kept : by-trail.Learnt lifetimes passed result left
 
 module _ (run : TrailRun) where

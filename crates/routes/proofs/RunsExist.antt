@@ -54,8 +54,8 @@ abbrev mut_ref : List ℕ → MutBor (List ℕ)
 mut_ref l = record { ref_ptr = (0, 0); ghost_name = 0; now = l }
 
 -- lifetimes of the references; a contract says nothing of them
-abbrev lifetimes : Lfts 4
-lifetimes = ([], ([], ([], ([], tt))))
+abbrev lifetimes : Lfts 5
+lifetimes = ([], ([], ([], ([], ([], tt)))))
 
 module _ (s : List ℕ) where
   -- references to the sheet, its tables, clear work and a question, with those after them: what a call is passed, and what it leaves
@@ -71,11 +71,11 @@ module _ (s : List ℕ) where
   abbrev passed : List ℕ → ℕ → Dens lifetimes list.ps
   passed question cells = refs question (mut_ref (zeros cells), tt)
 
-  abbrev left : List ℕ → List ℕ → AtExit (ended_of 4 list.ps list.r) lifetimes
+  abbrev left : List ℕ → List ℕ → AtExit (ended_of 5 list.ps list.r) lifetimes
   left question answers = refs question (mut_ref answers, tt)
 
   -- a run of such a call that is accepted, where what it promises holds
-  abbrev run_of : {promises : Out 4 list.ps list.r} (question : List ℕ) (cells : ℕ) (answers : List ℕ)
+  abbrev run_of : {promises : Out 5 list.ps list.r} (question : List ℕ) (cells : ℕ) (answers : List ℕ)
       → promises lifetimes (passed question cells) (Ok tt) (left question answers) → Run promises
   run_of question cells answers kept = record {
     lifetimes = lifetimes;

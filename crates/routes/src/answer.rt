@@ -14,9 +14,6 @@ ghost use Rattle.routes.specs.Rules.{rule_of, stored_answer};
 use crate::{ANSWER_CELLS, Route};
 use tree::OwnTables;
 
-// No cell.
-const NONE: u16 = 65535;
-
 // Stores the answer to each pair: its carrier, and the branches towards x and y.
 pub(crate) fn pairs(route: Route, sheet: &OwnTables<'_>, question: &[u16], answer: &mut [u16])
     requires { Listed sheet.now question.now × (length answer.old ≡ answer_cells (length question.now)) }
@@ -76,7 +73,7 @@ pub(crate) fn trail(
         × (answer.new ≡ by_lifts (own sheet.now) (left_of question.now 0) (right_of question.now 0) ∷ [])
         × (rows.new ≡ trail_buffer (trail (own sheet.now) (left_of question.now 0) (right_of question.now 0))) }
 {
-    cells::fill_all(rows, NONE);
+    cells::fill_all(rows, cells::NONE);
     let x = node(question, 0);
     let y = node(question, 1);
     let end = lifting::trail(sheet, x, y, rows);

@@ -20,7 +20,7 @@ const TRAIL: usize = 7;
 
 // Tests 1 to 11, of a call whose lowest buffer of 5 to 7 that does not fit is `unfit`, or 0. What is accepted is the sheet with its own tables.
 pub(crate) fn admit<'a>(
-    lent: Lent<'a>,
+    lent: Lent<'a, 'a>,
     work: &mut [u16],
     question: &[u16],
     unfit: usize,

@@ -28,7 +28,7 @@ pub const ANSWER_CELLS: usize = 3;
 
 // The answer to each pair by labels: `question` lists the pairs, `answer` has three cells for each.
 pub fn pairs_by_labels(
-    lent: Lent<'_>,
+    lent: Lent<'_, '_>,
     work: &mut [u16],
     question: &[u16],
     answer: &mut [u16],
@@ -42,7 +42,7 @@ pub fn pairs_by_labels(
 
 // The same by the tour.
 pub fn pairs_by_tour(
-    lent: Lent<'_>,
+    lent: Lent<'_, '_>,
     work: &mut [u16],
     question: &[u16],
     answer: &mut [u16],
@@ -56,7 +56,7 @@ pub fn pairs_by_tour(
 
 // The same by lifts.
 pub fn pairs_by_lifts(
-    lent: Lent<'_>,
+    lent: Lent<'_, '_>,
     work: &mut [u16],
     question: &[u16],
     answer: &mut [u16],
@@ -71,7 +71,7 @@ pub fn pairs_by_lifts(
 // The same by the route named.
 pub fn pairs(
     route: Route,
-    lent: Lent<'_>,
+    lent: Lent<'_, '_>,
     work: &mut [u16],
     question: &[u16],
     answer: &mut [u16],
@@ -89,7 +89,7 @@ pub fn pairs(
 // The trail of one pair, of two cells, in the 64 cells of `rows`: each lift's row, and 65535 after them. The carrier is the answer's one cell; the
 // count of the lifts is given with it.
 pub fn trail(
-    lent: Lent<'_>,
+    lent: Lent<'_, '_>,
     work: &mut [u16],
     question: &[u16],
     answer: &mut [u16],
@@ -106,7 +106,7 @@ pub fn trail(
 
 // The carrier of a list of parts, in the answer's one cell: that of the first and the last of them in preorder.
 pub fn list(
-    lent: Lent<'_>,
+    lent: Lent<'_, '_>,
     work: &mut [u16],
     question: &[u16],
     answer: &mut [u16],

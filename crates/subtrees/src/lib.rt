@@ -12,7 +12,7 @@ ghost use Rattle.subtrees.specs.Stretch.{SliceOf, FindGives, LocateGives, Subtre
 use tree::{Lent, Located, OwnTables, Refusal};
 
 // Where the parts that `part` carries stand in the order table: the first of their cells, and how many there are; or why the call is refused.
-pub fn locate(lent: Lent<'_>, work: &mut [u16], part: usize) -> Result<Located, Refusal>
+pub fn locate(lent: Lent<'_, '_>, work: &mut [u16], part: usize) -> Result<Located, Refusal>
     ensures { LocateGives (lent_in lent.entry) part work.old result work.new }
 {
     let sheet = tables::admit_lent(lent, 0, work)?;
@@ -21,7 +21,7 @@ pub fn locate(lent: Lent<'_>, work: &mut [u16], part: usize) -> Result<Located, 
 
 // These cells themselves, never a copy: the stretch of `order` that begins with the part. It has no cell where the call is refused, and else at least one;
 // `locate` says of the same inputs why.
-pub fn subtree<'a>(lent: Lent<'a>, work: &mut [u16], part: usize) -> &'a [u16]
+pub fn subtree<'a>(lent: Lent<'_, 'a>, work: &mut [u16], part: usize) -> &'a [u16]
     ensures { SubtreeGives (lent_in lent.entry) lent.entry.order part work.old result work.new }
 {
     let found = locate(lent, work, part);

@@ -28,8 +28,8 @@ pub fn check(parents: &[u16], work: &mut [u16]) -> Result<(), Refusal>
 }
 
 // The same for every call that is lent no tables: tests 1 to 7, of a call whose lowest further buffer that does not fit is `further`, or 0, a number as
-// `first_unfit` of tree/specs/Buffers states it. It is for the calls
-// of other crates to begin with, and no call of a user's: the further buffers are not lent to it, so that number is taken as it is given.
+// `first_unfit` of tree/specs/Buffers states it. It is for the calls of other crates to begin with, and no call of a user's: the further buffers are not
+// lent to it, so that number is taken as it is given.
 pub fn admit_sheet(parents: &[u16], further: usize, work: &mut [u16]) -> Result<(), Refusal>
     ensures { SheetGives parents.now further work.old result work.new }
 {
@@ -83,7 +83,7 @@ pub fn build(
 
 // Compares the four tables with the sheet `parents`: tests 1 to 8. The tables are stale at the first cell that is not the sheet's own, counted
 // from 0, the tables end to end. `work` is as after `check`.
-pub fn compare(lent: Lent<'_>, work: &mut [u16]) -> Result<(), Refusal>
+pub fn compare(lent: Lent<'_, '_>, work: &mut [u16]) -> Result<(), Refusal>
     ensures { LentGives (lent_in lent.entry) 0 work.old result work.new }
 {
     admit_lent(lent, 0, work)?;
@@ -94,7 +94,7 @@ pub fn compare(lent: Lent<'_>, work: &mut [u16]) -> Result<(), Refusal>
 // calls of other crates to begin with, and no call of a user's: the further buffers are not lent to it, so that number is taken as it is given. What it accepts is
 // the sheet with its own tables, as a type that says so.
 pub fn admit_lent<'a>(
-    lent: Lent<'a>,
+    lent: Lent<'a, 'a>,
     further: usize,
     work: &mut [u16],
 ) -> Result<OwnTables<'a>, Refusal>

@@ -20,7 +20,7 @@ use labels::Column;
 use tree::{Lent, Refusal};
 
 // Test 8: the four tables end to end.
-pub(crate) fn tables(lent: Lent<'_>, work: &mut [u16]) -> Result<(), Refusal>
+pub(crate) fn tables(lent: Lent<'_, '_>, work: &mut [u16]) -> Result<(), Refusal>
     requires { Fits (lent_in lent) work.old }
     ensures { verdict_of result ≡ verdict (stale_table (lent_in lent.entry) ∷ []) }
 {

@@ -1,4 +1,4 @@
-// What the calls of the crates above answer. The definitions that their contracts cite are in specs/, the laws about them in proofs/.
+// What the calls of the crates above are lent and answer. The definitions that their contracts cite are in specs/, the laws about them in proofs/.
 
 #![tactic(auto)]
 
@@ -42,14 +42,14 @@ pub enum Refusal {
     MalformedLine(usize),
 }
 
-// A sheet and the four tables that are lent with it, to be read.
+// A sheet and the four tables that are lent with it, to be read. The order table has a lifetime of its own, since a stretch of it may be handed back.
 #[derive(Clone, Copy)]
-pub struct Lent<'a> {
-    pub parents: &'a [u16],
-    pub label: &'a [u16],
-    pub tour: &'a [u16],
-    pub lift: &'a [u16],
-    pub order: &'a [u16],
+pub struct Lent<'t, 'o> {
+    pub parents: &'t [u16],
+    pub label: &'t [u16],
+    pub tour: &'t [u16],
+    pub lift: &'t [u16],
+    pub order: &'o [u16],
 }
 
 // Where the subtree of a part stands: the cell of the order table at which it begins, and the count of its cells.

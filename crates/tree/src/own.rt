@@ -14,7 +14,7 @@ use std::marker::Model;
 // "An accepted sheet, lent with its own tables."
 #[derive(Drop)]
 pub struct OwnTables<'a> {
-    lent: Lent<'a>,
+    lent: Lent<'a, 'a>,
 }
 
 impl<'a> Model for OwnTables<'a> {
@@ -27,7 +27,7 @@ impl<'a> Model for OwnTables<'a> {
 
 impl<'a> OwnTables<'a> {
     // What was lent, where it is that.
-    pub fn new(lent: Lent<'a>) -> OwnTables<'a>
+    pub fn new(lent: Lent<'a, 'a>) -> OwnTables<'a>
         requires { Small lent.parents.now × (lent_in lent ≡ own lent.parents.now) }
         ensures { result ≡ lent.entry.parents.now }
     {
