@@ -68,7 +68,7 @@ pub fn all_hold(cells: &[u16], first: usize, count: usize, value: u16) -> bool
     bits == 0
 }
 
-// The first cell that is `bound` or more; the number of cells where there is none.
+// The first cell that is `bound` or more; the number of cells where there is none, as `least` of tree/specs/Scan has it.
 pub fn first_from(cells: &[u16], bound: usize) -> usize
     ensures { result ≡ least (λ i. leb bound (get_or cells.now i 0)) (length cells.now) }
 {

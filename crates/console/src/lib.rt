@@ -107,7 +107,7 @@ fn read_sheet(
     }
 }
 
-// Tests a sheet and builds its tables, and answers the questions from a position on.
+// Tests a sheet and builds its tables, and answers the questions behind it.
 fn test_sheet(
     reader: Reader,
     parents: &[u16],

@@ -1,4 +1,5 @@
-// The lines that the program prints.
+// The lines that the program prints. Each is a few writes that cannot fail, since there is room; `write!` would answer a `fmt::Result` at each, for a writer
+// whose contract, `Writes`, says the bytes already.
 
 ghost use Rattle.text.specs.Writes.{HasRoom, Writes};
 ghost use Rattle.lines.specs.Forms.{list_text};

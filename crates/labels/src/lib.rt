@@ -1,6 +1,7 @@
 // The columns of the label table after PREORDER and SIZE, and the order of the nodes, which some are made along. Each is made in work from the sheet and the
 // columns before it, for building and comparing alike: a call of `tables` copies it out, or looks for the first cell that differs from it. The sheet is one
-// rooted tree, and work has its exact length.
+// rooted tree, and work has its exact length. That is a clause, `Columns`, and no invariant of a type, since the label table is written while its columns are
+// made, and work by each of them.
 
 #![tactic(auto)]
 

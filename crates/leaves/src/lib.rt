@@ -11,8 +11,8 @@ ghost use Rattle.tree.specs.Tests.{limit};
 ghost use Rattle.tree.specs.BottomUp.{Edges};
 ghost use Rattle.leaves.specs.Leaves.{Wooded, Falling};
 
-// Whether the sheet is one rooted tree; and then such an order, in the first n − 1 cells of work, and the entries in its third n. Where no part names a later one,
-// falling numbers are an order.
+// Whether the sheet is one rooted tree; and then such an order, in the first n − 1 cells of work, and the entries in its third n. Where no part names a later
+// one, falling numbers are an order.
 pub fn bottom_up(parents: &[u16], work: &mut [u16]) -> bool
     requires { Wooded parents.now work.old }
     ensures { (result ≡ true → Edges parents.now work.new) × (result ≡ false → Tree parents.now → ⊥) }

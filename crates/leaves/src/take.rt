@@ -41,7 +41,8 @@ fn unnamed(parents: &[u16], work: &mut [u16]) -> usize
     found
 }
 
-// Takes the parts that are in the order, eight at a time while so many wait. How many are in the order then: all but the last of them, fewer than eight, are taken.
+// Takes the parts that are in the order, eight at a time while so many wait. How many are in the order then: all but the last of them, fewer than eight, are
+// taken.
 fn take_eights(parents: &[u16], leaves: usize, work: &mut [u16]) -> usize
     requires { Wooded parents.now work.old × Taking parents.now work.old 0 leaves }
     ensures { Taking parents.now work.new (result / 8 * 8) result }
@@ -56,8 +57,8 @@ fn take_eights(parents: &[u16], leaves: usize, work: &mut [u16]) -> usize
     found
 }
 
-// Takes the others one by one, from `first` on. Before a part is taken the one behind it is read, for the same reason as in `eight`; where none waits there yet,
-// the entry of the part that is taken is the one that can come to.
+// Takes the others one by one, from `first` on. Before a part is taken the one behind it is read, for the same reason as in `eight`; where none waits there
+// yet, the entry of the part that is taken is the one that can come to.
 fn take_rest(parents: &[u16], first: usize, waiting: usize, work: &mut [u16]) -> usize
     requires { Wooded parents.now work.old × Taking parents.now work.old first waiting }
     ensures { Taking parents.now work.new result result }

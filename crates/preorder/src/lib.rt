@@ -1,5 +1,5 @@
-// PREORDER and SIZE, the first two columns of the label table: made in work by one walk over the tree, and of a lent table told by sums, sooner than they are made.
-// The sheet is one rooted tree, and work has its exact length.
+// PREORDER and SIZE, the first two columns of the label table: made in work by one walk over the tree, and of a lent table told by sums, sooner than they are
+// made. The sheet is one rooted tree, and work has its exact length.
 
 #![tactic(auto)]
 

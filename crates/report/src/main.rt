@@ -23,7 +23,8 @@ const INPUT: usize = console::MOST_BYTES + 1;
 fn read_input(stdin: &mut Stdin, buffer: &mut [u8]) -> usize
     ensures { IsPrefixLen result buffer.new }
 {
-    // No heap: std's `read_to_end` fills a `Vec`, and `read_exact` does not tell how much came before the end.
+    // No heap: std's `read_to_end` fills a `Vec`, and `read_exact` does not tell how much came before the end; `io::copy` does not tell a full buffer from a
+    // failed read.
     let mut done = 0;
     while done < buffer.len() {
         let Ok(more) = stdin.read(&mut buffer[done..]) else {

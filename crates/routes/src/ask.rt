@@ -11,7 +11,7 @@ ghost use Rattle.routes.specs.Answers.{Admitted};
 use crate::ANSWER_CELLS;
 use tree::{Fit, Lent, OwnTables, Refusal, first_unfit};
 
-// The numbers of the buffers.
+// The numbers of the buffers, as tree/specs/Buffers has them.
 const QUESTION: usize = 5;
 
 const ANSWER: usize = 6;

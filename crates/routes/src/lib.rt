@@ -26,7 +26,7 @@ pub enum Route {
 // The cells of a pair's answer: its carrier, and the branch from there towards x and towards y.
 pub const ANSWER_CELLS: usize = 3;
 
-// The answer to each pair by labels: `question` lists the pairs, `answer` has three cells for each.
+// The answer to each pair by labels, one of three calls that C has and README names: `question` lists the pairs, `answer` has three cells for each.
 pub fn pairs_by_labels(
     lent: Lent<'_, '_>,
     work: &mut [u16],

@@ -51,7 +51,8 @@ pub fn by_tour(sheet: &OwnTables<'_>, x: usize, y: usize) -> usize
     blocks::shallowest(sheet, i.min(j), i.max(j))
 }
 
-// The branch of c towards x, which c carries: the part directly below c on the way to x, or c where x is c. Before the tour comes back to c, it visits that part.
+// The branch of c towards x, which c carries: the part directly below c on the way to x, or c where x is c. Before the tour comes back to c, it visits that
+// part.
 pub fn branch(sheet: &OwnTables<'_>, c: usize, x: usize) -> usize
     requires { Small sheet.now × (x < length sheet.now) × Ancestor sheet.now c x }
     ensures { IsBelow (branch_at (own sheet.now) c x) (length sheet.now) result }

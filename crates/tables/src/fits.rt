@@ -9,7 +9,7 @@ use tree::{Fit, first_unfit};
 // The most parts that a sheet may have.
 pub(crate) const LIMIT: usize = 16384;
 
-// The numbers of the buffers.
+// The numbers of the buffers, as tree/specs/Buffers has them.
 const LABEL: usize = 1;
 
 const TOUR: usize = 2;

@@ -91,8 +91,8 @@ pub fn compare(lent: Lent<'_, '_>, work: &mut [u16]) -> Result<(), Refusal>
 }
 
 // The same for every call that is lent tables to read: tests 1 to 8, of a call whose lowest further buffer that does not fit is `further`, or 0. It is for the
-// calls of other crates to begin with, and no call of a user's: the further buffers are not lent to it, so that number is taken as it is given. What it accepts is
-// the sheet with its own tables, as a type that says so.
+// calls of other crates to begin with, and no call of a user's: the further buffers are not lent to it, so that number is taken as it is given. What it
+// accepts is the sheet with its own tables, as a type that says so.
 pub fn admit_lent<'a>(
     lent: Lent<'a, 'a>,
     further: usize,

@@ -1,5 +1,5 @@
-// Comparing lent tables with an accepted sheet, section by section, up to the first cell that differs. Where a section's cells can be told to be the sheet's own
-// from those before them, it is not made; the others are made in work and compared.
+// Comparing lent tables with an accepted sheet, section by section, up to the first cell that differs. Where a section's cells can be told to be the sheet's
+// own from those before them, it is not made; the others are made in work and compared.
 
 ghost use Rattle.std.specs.Prelude.{◌≡◌, ◌+◌, ◌*◌, length, [], ◌∷◌};
 ghost use Rattle.tree.specs.Buffers.{visits, label_cells, tour_cells, lift_cells, order_cells};
@@ -50,7 +50,7 @@ pub(crate) fn tables(lent: Lent<'_, '_>, work: &mut [u16]) -> Result<(), Refusal
     Ok(())
 }
 
-// The first cell of a label table that is not the sheet's own; the table's length where there is none.
+// The first cell of a label table that is not the sheet's own; the table's length where there is none, as `first_difference` of tree/specs/Sections has it.
 pub(crate) fn label(parents: &[u16], table: &[u16], work: &mut [u16]) -> usize
     requires { Ready parents.now work.old × (length table.now ≡ label_cells (length parents.now)) }
     ensures { result ≡ first_difference table.now (label_table parents.now) }

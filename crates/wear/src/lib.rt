@@ -1,6 +1,6 @@
 // Wear by assembly (document 02, 2026-02): each part has a count, and its total is the sum of the counts of all parts that it carries. The call tests its own
-// input, tests 1 to 7, and is lent no tables. `work` has four cells for each part; it is all zero afterwards, or as it was after refusals 1 to 3. An accepted call
-// takes a time in proportion to the number of parts.
+// input, tests 1 to 7, and is lent no tables. `work` has four cells for each part; it is all zero afterwards, or as it was after refusals 1 to 3. An accepted
+// call takes a time in proportion to the number of parts.
 
 #![tactic(auto)]
 
@@ -12,7 +12,7 @@ ghost use Rattle.wear.specs.Totals.{TotalsGive};
 
 use tree::{Fit, Refusal, first_unfit};
 
-// The numbers of the buffers.
+// The numbers of the buffers, as tree/specs/Buffers has them.
 const COUNTS: usize = 9;
 
 const TOTALS: usize = 10;
