@@ -7,12 +7,12 @@ use mathlib.Core.Path.{◌≡◌, refl, sym, ap, ◌∙◌}
 use mathlib.Core.List.{List, [], ◌∷◌, ◌++◌, append_assoc}
 use mathlib.Core.Option.{Option, none, some, Option-elim, bind}
 use lib.Dec.{eqb}
-use lib.ListN.{length, drop, get_or, drop_of_length-le}
-use lib.Seq.{drop-cons}
+use lib.ListN.{length}
 use Rattle.tree.proofs.Scans.{by-test}
 use Rattle.text.specs.Bytes.{lf}
 use Rattle.std.specs.Prelude as std
 use Rattle.std.specs.Prelude.{Some, None}
+use Rattle.std.proofs.lemmas.List.{nil_from_length}
 use Rattle.text.specs.Found.{found_as}
 use Rattle.text.specs.Lines.{Lines, tail, line, before, lines}
 use Rattle.text.specs.Writes.{HasRoom, Writes}
@@ -67,17 +67,17 @@ lines-some x b e =
 -- no bytes are no line
 none_left : (reader : Reader) → left_by reader ≡ 0 → rest_of reader ≡ tail []
 unfolding lines
-none_left reader h = let all : length reader.input.now ≤ reader.at = omega arith in rw (drop_of_length-le reader.input.now all) refl
+none_left reader h = rw (nil_from_length reader.rest.now h) refl
+
+-- some bytes are one, or the beginning of one
+some_left : (b : List ℕ) → 0 < length b → lines b ≡ tail [] → ⊥
+some_left [] h = absurd (omega arith)
+some_left (x ∷ b) h = lines-some x b
 
 -- what was found says what is printed from there on
 here-prints : (before after : Reader) {r : std.Option Question} (s : List ℕ) (number : ℕ) → AsksGive before after r → 0 < left_by before
     → questions s number (rest_of before) ≡ printed s number (found_as (λ q. (query_of q, rest_of after)) r)
-here-prints before after s number g h =
-    let i = before.at in
-    let input = before.input.now in
-    let some_left : i < length input = omega arith in
-    line-prints s number (rest_of before) (rw (drop-cons input i 0 some_left) (lines-some (get_or input i 0) (drop (suc i) input)))
-    ∙ ap (printed s number) (sym g.is)
+here-prints before after s number g h = line-prints s number (rest_of before) (some_left before.rest.now h) ∙ ap (printed s number) (sym g.is)
 
 -- ---- the loop
 

@@ -5,14 +5,10 @@ use native.Mathlib.Omega.{arith}
 use mathlib.Core.Path.{◌≡◌, refl, sym, ◌∙◌}
 use mathlib.Core.List.{List, [], ◌∷◌, ◌++◌, append_assoc, append-nil}
 use mathlib.Core.Option.{Option, none, some, Option-elim, map, bind}
-use lib.ListN.{length, drop, length-append}
-use Rattle.std.specs.Prelude.{Some, None}
+use lib.ListN.{length, length-append}
 use Rattle.text.specs.Bytes.{bytes}
 use Rattle.text.specs.Fields.{after, number}
-use Rattle.text.specs.Found.{Finds, FindsNumber}
 use Rattle.lines.specs.Read.{listed}
-use Rattle.lines.specs.Gives.{numbers_of, ListedGives}
-use Rattle.lines.specs.declared.list.Numbers.{Numbers}
 
 -- what a reading found: numbers, and the bytes behind them
 abbrev Read : Type 0
@@ -34,43 +30,40 @@ unfolding listed Option-elim
 no-space zero b e = refl
 no-space (suc k) b e = rw (sym e) refl
 
--- some numbers were read, up to place i: the others are behind them
-pub record Listing (line : List ℕ) (at most : ℕ) (xs : List ℕ) (i : ℕ) : Type 0 where
+-- some numbers of a line were read: the others are at the beginning of the bytes that are left
+pub record Listing (line : List ℕ) (most : ℕ) (xs rest : List ℕ) : Type 0 where
   pub few : length xs ≤ most
-  pub within : i ≤ length line
-  pub is : listed most (drop at line) ≡ behind xs (listed (most - length xs) (drop i line))
+  pub is : listed most line ≡ behind xs (listed (most - length xs) rest)
 
-module _ {line : List ℕ} {at most i : ℕ} (numbers : Numbers) (l : Listing line at most (numbers_of numbers) i) where
+module _ {line rest : List ℕ} {most : ℕ} (xs : List ℕ) (l : Listing line most xs rest) where
   -- no more are read
-  ends : listed (most - length (numbers_of numbers)) (drop i line) ≡ some ([], drop i line) → ListedGives line at most (Some (numbers, i))
-  ends e = record { is = sym (l.is ∙ rw (e, append-nil) refl); within = l.within }
+  ends : listed (most - length xs) rest ≡ some ([], rest) → some (xs, rest) ≡ listed most line
+  ends e = sym (l.is ∙ rw (e, append-nil) refl)
 
   -- there are as many as there can be
-  pub listing_full : most ≤ length (numbers_of numbers) → ListedGives line at most (Some (numbers, i))
+  pub listing_full : most ≤ length xs → some (xs, rest) ≡ listed most line
   unfolding listed
-  listing_full h = let z : most - length (numbers_of numbers) ≡ 0 = omega arith in ends (rw z refl)
+  listing_full h = let z : most - length xs ≡ 0 = omega arith in ends (rw z refl)
 
   -- no space is behind them
-  pub listing-end : Finds line (after (bytes " ") (drop i line)) None → ListedGives line at most (Some (numbers, i))
-  listing-end f = ends (no-space (most - length (numbers_of numbers)) (drop i line) f.is)
+  pub listing-end : none ≡ after (bytes " ") rest → some (xs, rest) ≡ listed most line
+  listing-end e = ends (no-space (most - length xs) rest e)
 
-  module _ (h : length (numbers_of numbers) < most) where
+  module _ (h : length xs < most) where
     -- one more is looked for
-    left : most - length (numbers_of numbers) ≡ suc (most - suc (length (numbers_of numbers)))
+    left : most - length xs ≡ suc (most - suc (length xs))
     left = omega arith
 
-    module _ {start : ℕ} (s : Finds line (after (bytes " ") (drop i line)) (Some start)) where
+    module _ {digits : List ℕ} (s : some digits ≡ after (bytes " ") rest) where
       -- no number is behind the space
-      pub listing-broken : FindsNumber line (number (drop start line)) None → ListedGives line at most None
+      pub listing-broken : none ≡ number digits → none ≡ listed most line
       unfolding listed Option-elim bind
-      listing-broken f = record { is = sym (l.is ∙ rw (left, sym s.is, sym f.is) refl); within = tt }
+      listing-broken f = sym (l.is ∙ rw (left, sym s, sym f) refl)
 
       -- one number more
-      pub listing-more : {x end : ℕ} {ys : List ℕ} → FindsNumber line (number (drop start line)) (Some (x, end)) → ys ≡ numbers_of numbers ++ (x ∷ [])
-          → Listing line at most ys end
+      pub listing-more : {x : ℕ} {ys others : List ℕ} → some (x, others) ≡ number digits → ys ≡ xs ++ (x ∷ []) → Listing line most ys others
       unfolding listed Option-elim bind
-      listing-more {x} {end} f e =
-          let xs = numbers_of numbers in
-          let rest = listed (most - suc (length xs)) (drop end line) in
+      listing-more {x} {ys} {others} f e =
+          let more = listed (most - suc (length xs)) others in
           let one : length (xs ++ (x ∷ [])) ≡ suc (length xs) = omega (arith, length-append xs (x ∷ [])) in
-          rw e (record { few = omega arith; within = f.within; is = rw one (l.is ∙ rw (left, sym s.is, sym f.is) (behind_more xs x rest)) })
+          rw e (record { few = omega arith; is = rw one (l.is ∙ rw (left, sym s, sym f) (behind_more xs x more)) })

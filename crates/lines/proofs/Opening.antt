@@ -55,8 +55,8 @@ admit-parts {n} above few = record { is = λ ls. rw (count-accepted n above few)
 -- ---- its line
 
 -- a new reader stands at the first line
-pub at_first : (reader : Reader) {input : Bor (List ℕ)} → (reader.input ≡ input) × (reader.at ≡ 0) → rest_of reader ≡ lines input.now
-at_first reader (same, start) = rw (same, start) refl
+pub at_first : (reader : Reader) {input : Bor (List ℕ)} → reader.rest ≡ input → rest_of reader ≡ lines input.now
+at_first reader e = rw e refl
 
 -- what a machine line was taken as
 abbrev Counted : Reader → Reader → std.Option ℕ → Type 0
@@ -75,8 +75,8 @@ module _ (input : List ℕ) (before after : Reader) (first : rest_of before ≡ 
     start-refused a = record { is = a.is (rest_of after) ∙ rw (← first, ← g.is) refl; within = tt }
 
     -- or it is that of a machine
-    pub start-machine : {m : ℕ} → before.input.now ≡ input → AdmitGives n (Ok m) → StartGives input (Ok (m, after))
+    pub start-machine : {m : ℕ} → before.rest.now ≡ input → AdmitGives n (Ok m) → StartGives input (Ok (m, after))
     unfolding opening Option-elim
     start-machine e a =
         let (above, few) = a.within in
-        record { is = a.is (rest_of after) ∙ rw (← first, ← g.is) refl; within = (above, few, rw g.same e) }
+        record { is = a.is (rest_of after) ∙ rw (← first, ← g.is) refl; within = (above, few, rw e at g.left) }

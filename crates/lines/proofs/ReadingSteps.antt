@@ -3,14 +3,12 @@
 use Prim.Native.Nat.{ℕ, ◌≤◌, ◌<◌}
 use native.Mathlib.Omega.{arith}
 use mathlib.Core.Path.{◌≡◌, refl, sym}
-use mathlib.Core.List.{List}
+use mathlib.Core.List.{List, [], ◌∷◌}
 use mathlib.Core.Option.{Option, none, some, bind}
 use mathlib.Core.Bool.{Bool}
-use borrow.Author.Tests.{le-leb, lt-leb, eqb-true, eqb-false}
-use borrow.Table.Steps.{cases}
+use borrow.Author.Tests.{le-leb, lt-leb, ne_eqb}
 use lib.Dec.{eqb}
-use lib.ListN.{length, drop, drop_of_length-le}
-use lib.Seq.{drop-cons}
+use lib.ListN.{length}
 use Rattle.std.specs.Bool.{then_some}
 use Rattle.std.specs.Prelude as std
 use Rattle.std.specs.Prelude.{Some, None, MatchOption}
@@ -33,13 +31,10 @@ module _ {A B : Type 0} {sought : Option A} (k : A → Option B) where
   goes_on e g = rw (sym e) g
 
 -- no bytes are left, or some are
-pub read_whole : {A B : Type 0} (f : A → B) (line : List ℕ) (end : ℕ) (a : A) {b : Bool} → end ≤ length line → b ≡ eqb end (length line)
-    → found_as f (then_some b a) ≡ whole (drop end line) (f a)
+pub read_whole : {A B : Type 0} (f : A → B) (rest : List ℕ) (a : A) {b : Bool} → b ≡ eqb (length rest) 0 → found_as f (then_some b a) ≡ whole rest (f a)
 unfolding whole
-read_whole f line end a h e =
-    cases (eqb end (length line))
-    (λ t. let all : length line ≤ end = omega (arith, eqb-true end (length line) t) in rw (e, t, drop_of_length-le line all) refl)
-    (λ t. let more : end < length line = omega (arith, eqb-false end (length line) t) in rw (e, t, drop-cons line end 0 more) refl)
+read_whole f [] a e = rw e refl
+read_whole f (x ∷ rest) a e = rw (e, ne_eqb (length (x ∷ rest)) 0 (λ q. omega arith)) refl
 
 -- the first of two readings that is one: the second is made where the first is none
 pub is_either : {form : Option Form} (other : Option Form) {P : Type 0} (a r : std.Option Line) → reading_of a ≡ form → MatchOption a P (λ l'. r ≡ Some l')

@@ -1,17 +1,13 @@
 -- What a place takes of the next line, from what the reader gives: the line as the place takes it, or nothing.
 -- Assumes nothing.
-use Prim.Native.Nat.{◌≤◌, ◌<◌}
-use native.Mathlib.Omega.{arith}
-use lib.ListN.{length}
-use mathlib.Core.Path.{◌≡◌, refl, ap}
+use mathlib.Core.Path.{◌≡◌, refl}
 use mathlib.Core.Option.{Option, bind}
 use Rattle.std.specs.Prelude as std
 use Rattle.std.specs.Prelude.{Some, None}
-use Rattle.text.specs.Lines.{Lines}
 use Rattle.text.specs.Found.{found_as}
 use Rattle.lines.specs.Forms.{Form}
 use Rattle.lines.specs.Read.{next_as}
-use Rattle.lines.specs.Gives.{form_of, rest_of, left_by, Takes, NextGives}
+use Rattle.lines.specs.Gives.{form_of, rest_of, Takes, NextGives}
 use Rattle.lines.specs.declared.form.Line.{Line}
 use Rattle.lines.specs.declared.reader.Reader.{Reader}
 
@@ -20,18 +16,10 @@ module _ {A B : Type 0} (of : B → A) (take : Form → Option A) {before after 
   pub takes : {l : Line} → NextGives before after (Some l) → (r : std.Option B) → found_as of r ≡ take (form_of l)
       → Takes of (next_as take (rest_of before)) before after r
   unfolding next_as bind
-  takes g None t = record { is = rw (← g.is, ← t) refl; further = tt; same = g.same }
-  takes g (Some b) t = record { is = rw (← g.is, ← t) refl; further = g.further; same = g.same }
+  takes g None t = record { is = rw (← g.is, ← t) refl; further = tt; left = g.left }
+  takes g (Some b) t = record { is = rw (← g.is, ← t) refl; further = g.further; left = g.left }
 
   -- none was read
   pub takes_none : NextGives before after None → Takes of (next_as take (rest_of before)) before after None
   unfolding next_as bind
-  takes_none g = record { is = rw (← g.is) refl; further = tt; same = g.same }
-
--- what was taken is behind the reader
-pub nearer : {A B : Type 0} {of : B → A} {there : Option (A × Lines)} {before after : Reader} {b : B} → Takes of there before after (Some b)
-    → left_by after < left_by before
-nearer {before} {after} t =
-    let same : length after.input.now ≡ length before.input.now = ap (λ i. length i.now) t.same in
-    let inside : after.at ≤ length after.input.now = after.within in
-    omega (arith, t.further)
+  takes_none g = record { is = rw (← g.is) refl; further = tt; left = g.left }

@@ -1,6 +1,7 @@
 -- What the functions of this crate give, as the definitions have it.
 -- Assumes nothing.
-use Rattle.std.specs.Prelude.{ℕ, ◌-◌, ◌≤◌, ◌<◌, ◌≡◌, List, length, take, drop, Option, Result, Ok, Err, IfSome, IfOk}
+use Rattle.std.specs.Prelude.{ℕ, ◌≤◌, ◌<◌, ◌≡◌, List, ◌++◌, length, take, Option, Result, Ok, Err, IfSome, IfOk}
+use Rattle.std.specs.Borrow.{Bor}
 use Rattle.std.proofs.Math.Option as maybe
 use Rattle.tree.specs.declared.Refusal.{Refusal}
 use Rattle.tree.specs.Verdict.{number_of, place_of}
@@ -8,7 +9,7 @@ use Rattle.tree.specs.Tests.{verdict}
 use Rattle.text.specs.Lines.{Lines, lines}
 use Rattle.text.specs.Found.{found_as}
 use Rattle.lines.specs.Forms.{Query, pair, many, Form, machine, part, asked}
-use Rattle.lines.specs.Read.{next, listed}
+use Rattle.lines.specs.Read.{next}
 use Rattle.lines.specs.Machine.{most, count_tests, Opening, machine_of, turned_away, by_count, opening}
 use Rattle.lines.specs.declared.list.Numbers.{Numbers}
 use Rattle.lines.specs.declared.form.Question.{Question}
@@ -37,13 +38,8 @@ abbrev pub two_of : Option (ℕ × ℕ) → maybe.Option (ℕ × ℕ)
 two_of r = found_as (λ two. two) r
 
 -- the numbers of a many line, and the bytes behind them
-abbrev pub list_of : List ℕ → Option (Numbers × ℕ) → maybe.Option (List ℕ × List ℕ)
-list_of b r = found_as (λ found. (numbers_of found.0, drop found.1 b)) r
-
--- those from place `at` of b on
-pub record ListedGives (b : List ℕ) (at most : ℕ) (r : Option (Numbers × ℕ)) : Type 0 where
-  pub is : list_of b r ≡ listed most (drop at b)
-  pub within : IfSome r (λ found. found.1 ≤ length b)
+abbrev pub list_of : Option (Numbers × Bor (List ℕ)) → maybe.Option (List ℕ × List ℕ)
+list_of r = found_as (λ found. (numbers_of found.0, found.1.now)) r
 
 -- what a line's bytes say
 abbrev pub reading_of : Option Line → maybe.Option Form
@@ -53,16 +49,20 @@ reading_of r = found_as form_of r
 
 -- the lines that a reader has before it, and their bytes
 abbrev pub rest_of : Reader → Lines
-rest_of reader = lines (drop reader.at reader.input.now)
+rest_of reader = lines reader.rest.now
 
 abbrev pub left_by : Reader → ℕ
-left_by reader = length reader.input.now - reader.at
+left_by reader = length reader.rest.now
+
+-- some bytes are what is left of others
+abbrev pub LeftOf : List ℕ → List ℕ → Type 0
+LeftOf all rest = (taken : List ℕ) × (all ≡ taken ++ rest)
 
 -- a reader took what it gives, and stands behind it, if anything was there
 pub record Takes {A B : Type 0} (of : B → A) (there : maybe.Option (A × Lines)) (before after : Reader) (r : Option B) : Type 0 where
   pub is : found_as (λ b. (of b, rest_of after)) r ≡ there
-  pub further : IfSome r (λ b. before.at < after.at)
-  pub same : after.input ≡ before.input
+  pub further : IfSome r (λ b. left_by after < left_by before)
+  pub left : LeftOf before.rest.now after.rest.now
 
 -- the next line
 abbrev pub NextGives : Reader → Reader → Option Line → Type 0
@@ -88,4 +88,4 @@ pub record AdmitGives (n : ℕ) (r : Result ℕ Refusal) : Type 0 where
 -- the machine line of an input
 pub record StartGives (input : List ℕ) (r : Result (ℕ × Reader) Refusal) : Type 0 where
   pub is : opening_of r ≡ opening (lines input)
-  pub within : IfOk r (λ start. (0 < start.0) × (start.0 ≤ most) × (start.1.input.now ≡ input))
+  pub within : IfOk r (λ start. (0 < start.0) × (start.0 ≤ most) × LeftOf input start.1.rest.now)

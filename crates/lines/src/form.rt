@@ -1,10 +1,10 @@
 // The forms of a line (document 01, "The program").
 
-ghost use Rattle.std.specs.Prelude.{◌≤◌, ◌≡◌, length};
+ghost use Rattle.std.specs.Prelude.{◌≡◌};
 ghost use Rattle.lines.specs.Forms.{most_listed};
 ghost use Rattle.text.specs.Found.{found_as};
-ghost use Rattle.lines.specs.Read.{machine_form, two_numbers, part_form, pair_form, many_form, read as Read·read, machine_count, entry, query};
-ghost use Rattle.lines.specs.Gives.{query_of, form_of, two_of, ListedGives, reading_of};
+ghost use Rattle.lines.specs.Read.{machine_form, two_numbers, part_form, pair_form, listed, many_form, read as Read·read, machine_count, entry, query};
+ghost use Rattle.lines.specs.Gives.{query_of, form_of, two_of, list_of, reading_of};
 
 use crate::list::Numbers;
 
@@ -79,19 +79,19 @@ pub(crate) fn read(line: &[u8]) -> Option<Line>
 fn machine(line: &[u8]) -> Option<Line>
     ensures { reading_of result ≡ machine_form line.now }
 {
-    let at = text::find_word(line, 0, b"(machine ")?;
-    let (n, end) = text::find_number_then(line, at, b")")?;
-    (end == line.len()).then_some(Line::Machine(n))
+    let rest = line.strip_prefix(b"(machine ")?;
+    let (n, rest) = text::find_number_then(rest, b")")?;
+    rest.is_empty().then_some(Line::Machine(n))
 }
 
 // Reads two numbers between three words, which are all of the line.
 fn two_numbers(line: &[u8], first: &[u8], middle: &[u8], last: &[u8]) -> Option<(u16, u16)>
     ensures { two_of result ≡ two_numbers first.now middle.now last.now line.now }
 {
-    let at = text::find_word(line, 0, first)?;
-    let (x, mid) = text::find_number_then(line, at, middle)?;
-    let (y, end) = text::find_number_then(line, mid, last)?;
-    (end == line.len()).then_some((x, y))
+    let rest = line.strip_prefix(first)?;
+    let (x, rest) = text::find_number_then(rest, middle)?;
+    let (y, rest) = text::find_number_then(rest, last)?;
+    rest.is_empty().then_some((x, y))
 }
 
 // The part form.
@@ -114,27 +114,25 @@ fn pair(line: &[u8]) -> Option<Line>
 fn many(line: &[u8]) -> Option<Line>
     ensures { reading_of result ≡ many_form line.now }
 {
-    let at = text::find_word(line, 0, b"(many")?;
-    let (numbers, mid) = listed(line, at)?;
-    let end = text::find_word(line, mid, b")")?;
-    (end == line.len()).then_some(Line::Asked(Question::Many(numbers)))
+    let rest = line.strip_prefix(b"(many")?;
+    let (numbers, rest) = listed(rest)?;
+    let rest = rest.strip_prefix(b")")?;
+    rest.is_empty()
+        .then_some(Line::Asked(Question::Many(numbers)))
 }
 
-// The numbers from a place on, each behind a space, and where they end.
-fn listed(line: &[u8], at: usize) -> Option<(Numbers, usize)>
-    requires { at ≤ length line.now }
-    ensures { ListedGives line.now at most_listed result }
+// The numbers at the beginning, each behind a space, and the bytes behind them.
+fn listed(bytes: &[u8]) -> Option<(Numbers, &[u8])>
+    ensures { list_of result ≡ listed most_listed bytes.now }
 {
     let mut numbers = Numbers::new();
-    let mut i = at;
-    // No index is counted: the list says when it is full, and a line's end may come before.
-    while !numbers.is_full() {
-        let Some(start) = text::find_word(line, i, b" ") else {
-            return Some((numbers, i));
-        };
-        let (x, end) = text::find_number(line, start)?;
+    let mut rest = bytes;
+    while !numbers.is_full()
+        && let Some(digits) = rest.strip_prefix(b" ")
+    {
+        let (x, others) = text::find_number(digits)?;
         numbers.push(x);
-        i = end;
+        rest = others;
     }
-    Some((numbers, i))
+    Some((numbers, rest))
 }

@@ -1,16 +1,12 @@
-// The reader "holds the input and its position and takes the lines one by one". The position is that of a line's first byte.
-
-ghost use Rattle.std.specs.Prelude.{◌≤◌, length};
+// The reader "holds the input and its position and takes the lines one by one": it holds the input from its position on, which is that of a line's first byte.
 
 use crate::form;
 use crate::form::Line;
 
-// The input, and the position in it.
+// What is left of the input.
 #[derive(Drop)]
 pub struct Reader<'a> {
-    input: &'a [u8],
-    at: usize,
-    ghost within: { at ≤ length input.now },
+    rest: &'a [u8],
 }
 
 impl<'a> Reader<'a> {
@@ -20,16 +16,16 @@ impl<'a> Reader<'a> {
 
     // A reader of the input, at its first line.
     pub(crate) fn new(input: &'a [u8]) -> Reader<'a>
-        ensures { (result.input ≡ input.entry) × (result.at ≡ 0) }
+        ensures { result.rest ≡ input.entry }
     {
-        Reader { input, at: 0 }
+        Reader { rest: input }
     }
 
     // Whether bytes are left.
     pub fn has_more(&self) -> bool
         ensures { MatchBool result (0 < left_by self.now) (left_by self.now ≡ 0) }
     {
-        self.at < self.input.len()
+        !self.rest.is_empty()
     }
 }
 
@@ -45,9 +41,9 @@ impl Iterator for Reader<'_> {
     ghost remaining = { λ reader. at_most (left_by reader) };
 
     fn next(&mut self) -> Option<Line> {
-        let end = text::line_end(self.input, self.at)?;
-        let line = form::read(&self.input[self.at..end])?;
-        self.at = end + 1;
+        let (first, rest) = text::first_line(self.rest)?;
+        let line = form::read(first)?;
+        self.rest = rest;
         Some(line)
     }
 }

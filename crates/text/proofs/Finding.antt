@@ -1,125 +1,101 @@
--- How a search for a word or a number goes on, byte by byte, and what it has found where it ends.
+-- What a search for a word has found, and how one for a number goes on, byte by byte.
 -- Assumes nothing.
-use Prim.Native.Nat.{ℕ, suc, ◌+◌, ◌*◌, ◌≤◌, ◌<◌}
-use native.Mathlib.Numerals.{add-one}
+use Prim.Native.Nat.{ℕ, ◌+◌, ◌*◌, ◌≤◌, ◌<◌}
 use native.Mathlib.Omega.{arith}
 use mathlib.Core.Path.{◌≡◌, refl, sym, ap, ◌∙◌}
-use mathlib.Core.Bool.{true, false, cond}
-use mathlib.Core.List.{List, ◌∷◌, ◌++◌}
+use mathlib.Core.Bool.{Bool, true, false}
+use mathlib.Core.List.{List, [], ◌∷◌}
 use mathlib.Core.Option.{Option, none, some, bind}
 use borrow.Author.Tests.{eq-eqb, ne_eqb, le-leb, lt-leb}
-use lib.Dec.{leb}
-use lib.ListN.{length, drop, get_or, drop_of_length-le}
-use lib.Seq.{drop-cons, drop-drop}
-use Rattle.std.specs.Prelude as std
+use denote.Ref.{Bor}
+use lib.Dec.{eqb}
+use lib.ListN.{length, take, drop, get_or}
 use Rattle.std.specs.Prelude.{Some, None}
+use Rattle.std.specs.Cmp.Lexicographic.{pointwise}
+use Rattle.std.proofs.lemmas.Bool.Decides.{Decides-eqb}
+use Rattle.std.proofs.lemmas.Slice.Eq.{strip_prefix_is}
 use Rattle.text.specs.Bytes.{zero_digit}
-use Rattle.text.specs.Fields.{after, is_digit, digit, highest, number_from, number, number_then}
-use Rattle.text.specs.Found.{Finds, FindsNumber}
+use Rattle.text.specs.Fields.{after, digit, highest, number_from, number, number_then}
 use Rattle.text.proofs.Numerals.{Digit, digit-is, no-digit, after-read, after-exact}
 
--- ---- a word
+-- ---- a word, by what `strip_prefix` says
 
-module _ (b : List ℕ) (at : ℕ) (w : List ℕ) where
-  -- the word stands at a place
-  pub word-there : at + length w ≤ length b → drop at b ≡ w ++ drop (length w) (drop at b) → Finds b (after w (drop at b)) (Some (at + length w))
-  word-there h e =
-      let rest : drop (length w) (drop at b) ≡ drop (at + length w) b = drop-drop (length w) at b in
-      record { is = sym (ap (after w) e ∙ after-read w (drop (length w) (drop at b)) ∙ ap some rest); within = h }
+-- its bytes are the first ones
+abbrev begun : List ℕ → List ℕ → Bool
+begun w b = pointwise eqb (take (length w) b) w
+
+module _ (w b : List ℕ) where
+  -- it stands at the beginning, and the bytes behind it are left
+  pub word-there : (rest : Bor (List ℕ)) → (begun w b ≡ true) × (rest.now ≡ drop (length w) b) × (length rest.now + length w ≡ length b)
+      → some rest.now ≡ after w b
+  word-there rest m = sym (ap (after w) (strip_prefix_is Decides-eqb b w (Some rest) m) ∙ after-read w rest.now)
 
   -- it does not
-  pub no-word : ((rest : List ℕ) → drop at b ≡ w ++ rest → ⊥) → Finds b (after w (drop at b)) None
-  no-word f = record { is = none_of (after w (drop at b)) refl; within = tt }
+  pub no-word : begun w b ≡ false → none ≡ after w b
+  no-word m = none_of (after w b) refl
     where
-      none_of : (o : Option (List ℕ)) → after w (drop at b) ≡ o → none ≡ after w (drop at b)
+      none_of : (o : Option (List ℕ)) → after w b ≡ o → none ≡ after w b
       none_of none e = sym e
-      none_of (some rest) e = absurd (f rest (after-exact w (drop at b) rest e))
+      none_of (some rest) e = absurd (strip_prefix_is Decides-eqb b w None m rest (after-exact w b rest e))
 
--- ---- the digits of a number
+-- ---- a number's digits, from its first on
 
--- the digits before place `at` make `first`, and with those from there to place i they make v
-pub record Reading (b : List ℕ) (at first v i : ℕ) : Type 0 where
-  pub within : i ≤ length b
-  pub small : v ≤ highest
-  pub is : number_from first (drop at b) ≡ number_from v (drop i b)
-
--- the next byte is looked at
-number-next : (b : List ℕ) (v i : ℕ) → i < length b
-    → number_from v (drop i b)
-    ≡ (let next = 10 * v + digit (get_or b i 0) in cond (is_digit (get_or b i 0)) (cond (leb next highest) (number_from next (drop (suc i) b)) none) (some (v, drop i b)))
+-- a byte that is no digit ends it, and so does the bytes' end
+pub number-stops : (v : ℕ) (b : List ℕ) → (0 < length b → Digit (get_or b 0 0) → ⊥) → some (v, b) ≡ number_from v b
 unfolding number_from
-number-next b v i h = rw (drop-cons b i 0 h) refl
+number-stops v [] f = refl
+number-stops v (x ∷ b) f = rw (no-digit x (f (omega arith))) refl
 
-module _ {b : List ℕ} {at first v i : ℕ} (r : Reading b at first v i) where
-  -- the bytes' end ends the number
-  pub reading-end : length b ≤ i → FindsNumber b (number_from first (drop at b)) (Some (v, i))
-  unfolding number_from
-  reading-end h = record { is = sym (r.is ∙ rw (drop_of_length-le b h) refl); within = r.within }
+-- a digit goes on with it
+pub number-more : (v : ℕ) (b : List ℕ) {w : ℕ} {rest : List ℕ} → 0 < length b → Digit (get_or b 0 0) → rest ≡ drop 1 b
+    → w ≡ 10 * v + digit (get_or b 0 0) → w ≤ highest → number_from w rest ≡ number_from v b
+unfolding number_from
+number-more v [] h d r e s = absurd (omega arith)
+number-more v (x ∷ b) h d r e s = rw (r, e, digit-is x d, le-leb _ _ (rw e at s)) refl
 
-  module _ (h : i < length b) where
-    -- a byte that is no digit ends it
-    pub reading-stop : false ≡ is_digit (get_or b i 0) → FindsNumber b (number_from first (drop at b)) (Some (v, i))
-    reading-stop d = record { is = sym (r.is ∙ number-next b v i h ∙ rw (← d) refl); within = r.within }
-
-    module _ (d : true ≡ is_digit (get_or b i 0)) where
-      -- a digit goes on with it
-      pub reading-more : {w : ℕ} → w ≡ 10 * v + digit (get_or b i 0) → w ≤ highest → Reading b at first w (i + 1)
-      reading-more e s = record {
-        within = omega arith;
-        small = s;
-        is = rw (add-one, e) (r.is ∙ number-next b v i h ∙ rw (← d, le-leb _ _ (rw e at s)) refl);
-      }
-
-      -- a digit makes it too large
-      pub reading-large : highest < 10 * v + digit (get_or b i 0) → FindsNumber b (number_from first (drop at b)) None
-      reading-large s = record { is = sym (r.is ∙ number-next b v i h ∙ rw (← d, lt-leb _ _ s) refl); within = tt }
+-- a digit makes it too large
+pub number-large : (v : ℕ) (b : List ℕ) → 0 < length b → Digit (get_or b 0 0) → highest < 10 * v + digit (get_or b 0 0) → none ≡ number_from v b
+unfolding number_from
+number-large v [] h d s = absurd (omega arith)
+number-large v (x ∷ b) h d s = rw (digit-is x d, lt-leb _ _ s) refl
 
 -- ---- a number's first byte
 
-module _ (b : List ℕ) (at : ℕ) where
-  -- there is none
-  pub number-nowhere : length b ≤ at → FindsNumber b (number (drop at b)) None
-  unfolding number
-  number-nowhere h = record { is = rw (drop_of_length-le b h) refl; within = tt }
+-- the digit 0 is the whole number
+pub number-zero : (b : List ℕ) {rest : List ℕ} → 0 < length b → get_or b 0 0 ≡ zero_digit → rest ≡ drop 1 b → some (0, rest) ≡ number b
+unfolding number
+number-zero [] h e r = absurd (omega arith)
+number-zero (x ∷ b) h e r = rw (r, eq-eqb _ _ e) refl
 
-  module _ {x : ℕ} (h : at < length b) (there : x ≡ get_or b at 0) where
-    begins : drop at b ≡ x ∷ drop (suc at) b
-    begins = drop-cons b at 0 h ∙ ap (λ (y : ℕ). y ∷ drop (suc at) b) (sym there)
+-- another digit begins one, whose other digits are behind it
+pub number-digit : (b : List ℕ) {rest : List ℕ} {o : Option (ℕ × List ℕ)} → 0 < length b → Digit (get_or b 0 0) → zero_digit < get_or b 0 0 → rest ≡ drop 1 b
+    → o ≡ number_from (digit (get_or b 0 0)) rest → o ≡ number b
+unfolding number
+number-digit [] h d above r e = absurd (omega arith)
+number-digit (x ∷ b) h d above r e = let more : x ≡ zero_digit → ⊥ = λ q. omega arith in e ∙ rw (r, ne_eqb _ _ more, digit-is x d) refl
 
-    -- the digit 0 is the whole number
-    pub number-zero : x ≡ zero_digit → FindsNumber b (number (drop at b)) (Some (0, at + 1))
-    unfolding number
-    number-zero e = record { is = rw (add-one, begins, eq-eqb _ _ e) refl; within = omega arith }
-
-    -- a byte that is no digit begins no number
-    pub number-no-digit : (Digit x → ⊥) → FindsNumber b (number (drop at b)) None
-    unfolding number
-    number-no-digit f =
-        let e : x ≡ zero_digit → ⊥ = λ q. f (record { low = omega arith; high = omega arith }) in
-        record { is = rw (begins, ne_eqb _ _ e, no-digit x f) refl; within = tt }
-
-    -- another digit begins one, whose other digits are behind it
-    pub number-digit : {r : std.Option (ℕ × ℕ)} → Digit x → zero_digit < x → FindsNumber b (number_from (digit x) (drop (at + 1) b)) r → FindsNumber b (number (drop at b)) r
-    unfolding number
-    number-digit d above f =
-        let e : x ≡ zero_digit → ⊥ = λ q. omega arith in
-        record { is = f.is ∙ rw (add-one, begins, ne_eqb _ _ e, digit-is x d) refl; within = f.within }
+-- no number begins with a byte that is no digit, or where there is none
+pub number-none : (b : List ℕ) → (0 < length b → Digit (get_or b 0 0) → ⊥) → none ≡ number b
+unfolding number
+number-none [] f = refl
+number-none (x ∷ b) f =
+    let e : x ≡ zero_digit → ⊥ = λ q. f (omega arith) (record { low = omega arith; high = omega arith }) in
+    rw (ne_eqb _ _ e, no-digit x (f (omega arith))) refl
 
 -- ---- a number with a word behind it
 
-module _ {b : List ℕ} (w l : List ℕ) where
+module _ (w b : List ℕ) where
   -- there is no number
-  pub then-no-number : FindsNumber b (number l) None → FindsNumber b (number_then w l) None
+  pub then-no-number : none ≡ number b → none ≡ number_then w b
   unfolding number_then bind
-  then-no-number f = record { is = rw (sym f.is) refl; within = tt }
+  then-no-number e = rw (sym e) refl
 
-  module _ {n end : ℕ} (f : FindsNumber b (number l) (Some (n, end))) where
-    -- the word does not stand behind it
-    pub then-no-word : Finds b (after w (drop end b)) None → FindsNumber b (number_then w l) None
-    unfolding number_then bind
-    then-no-word g = record { is = rw (sym f.is, sym g.is) refl; within = tt }
+  -- there is one, with no such word behind it
+  pub then-no-word : {n : ℕ} {rest : List ℕ} → some (n, rest) ≡ number b → none ≡ after w rest → none ≡ number_then w b
+  unfolding number_then bind
+  then-no-word e f = rw (sym e, sym f) refl
 
-    -- it does
-    pub then-word : {next : ℕ} → Finds b (after w (drop end b)) (Some next) → FindsNumber b (number_then w l) (Some (n, next))
-    unfolding number_then bind
-    then-word g = record { is = rw (sym f.is, sym g.is) refl; within = g.within }
+  -- or with the word
+  pub then-word : {n : ℕ} {rest behind : List ℕ} → some (n, rest) ≡ number b → some behind ≡ after w rest → some (n, behind) ≡ number_then w b
+  unfolding number_then bind
+  then-word e f = rw (sym e, sym f) refl

@@ -1,68 +1,50 @@
-// What stands at a place: a word, a number, the rest of a line.
+// What stands at the beginning of some bytes: a number, a line. Each is given with the bytes behind it.
 
-ghost use Rattle.std.specs.Prelude.{◌≤◌, ◌≡◌, length, drop};
+ghost use Rattle.std.specs.Prelude.{◌≡◌};
 ghost use Rattle.std.specs.List.{position};
 ghost use Rattle.text.specs.Bytes.{is_lf};
-ghost use Rattle.text.specs.Fields.{after, number_from, number, number_then};
-ghost use Rattle.text.specs.Found.{Finds, FindsNumber, LineEnd};
+ghost use Rattle.text.specs.Fields.{number_from, number, number_then};
+ghost use Rattle.text.specs.Found.{value_of, FirstLine};
 
-// Looks for a word at a place: where it ends.
-pub fn find_word(bytes: &[u8], at: usize, word: &[u8]) -> Option<usize>
-    requires { at ≤ length bytes.now }
-    ensures { Finds bytes.now (after word.now (drop at bytes.now)) result }
+// A number at the beginning, 0, or digits of which the first is not 0: its value, and the bytes behind it.
+pub fn find_number(bytes: &[u8]) -> Option<(u16, &[u8])>
+    ensures { value_of result ≡ number bytes.now }
 {
-    if bytes[at..].starts_with(word) {
-        Some(at + word.len())
-    } else {
-        None
-    }
-}
-
-// Looks for a number at a place, 0, or digits of which the first is not 0: its value, and where it ends.
-pub fn find_number(bytes: &[u8], at: usize) -> Option<(u16, usize)>
-    requires { at ≤ length bytes.now }
-    ensures { FindsNumber bytes.now (number (drop at bytes.now)) result }
-{
-    match *bytes.get(at)? {
-        b'0' => Some((0, at + 1)),
-        digit @ b'1'..=b'9' => number_from(bytes, at + 1, (digit - b'0') as u16),
+    match bytes {
+        [b'0', rest @ ..] => Some((0, rest)),
+        [digit @ b'1'..=b'9', rest @ ..] => number_from((digit - b'0') as u16, rest),
         _ => None,
     }
 }
 
-// The same of a number whose first digits make `first`, and whose other digits stand at the place.
-fn number_from(bytes: &[u8], at: usize, first: u16) -> Option<(u16, usize)>
-    requires { at ≤ length bytes.now }
-    ensures { FindsNumber bytes.now (number_from first (drop at bytes.now)) result }
+// The same of a number whose first digits make `first`, and whose other digits stand at the beginning.
+fn number_from(first: u16, bytes: &[u8]) -> Option<(u16, &[u8])>
+    ensures { value_of result ≡ number_from first bytes.now }
 {
     let mut v = first;
-    for i in at..bytes.len() {
-        let x = bytes[i];
-        if !x.is_ascii_digit() {
-            return Some((v, i));
-        }
-        v = v.checked_mul(10)?.checked_add((x - b'0') as u16)?;
+    let mut rest = bytes;
+    while let [digit @ b'0'..=b'9', others @ ..] = rest {
+        v = v.checked_mul(10)?.checked_add((digit - b'0') as u16)?;
+        rest = others;
     }
-    Some((v, bytes.len()))
+    Some((v, rest))
 }
 
-// Looks for a number at a place, with a word behind it: its value, and where the word ends.
-pub fn find_number_then(bytes: &[u8], at: usize, word: &[u8]) -> Option<(u16, usize)>
-    requires { at ≤ length bytes.now }
-    ensures { FindsNumber bytes.now (number_then word.now (drop at bytes.now)) result }
+// A number at the beginning, with a word behind it: its value, and the bytes behind the word.
+pub fn find_number_then<'a>(bytes: &'a [u8], word: &[u8]) -> Option<(u16, &'a [u8])>
+    ensures { value_of result ≡ number_then word.now bytes.now }
 {
-    let (n, end) = find_number(bytes, at)?;
-    let next = find_word(bytes, end, word)?;
-    Some((n, next))
+    let (n, rest) = find_number(bytes)?;
+    let rest = rest.strip_prefix(word)?;
+    Some((n, rest))
 }
 
-// The place of the first LF from `at` on.
-pub fn line_end(bytes: &[u8], at: usize) -> Option<usize>
-    requires { at ≤ length bytes.now }
-    ensures { LineEnd bytes.now at result }
+// The first line of a text: its bytes before its LF, and the bytes behind that.
+pub fn first_line(text: &[u8]) -> Option<(&[u8], &[u8])>
+    ensures { FirstLine text.now result }
 {
-    let i = first_lf(&bytes[at..])?;
-    Some(at + i)
+    let end = first_lf(text)?;
+    Some((&text[..end], &text[end + 1..]))
 }
 
 // The place of the first LF.

@@ -3,7 +3,6 @@
 -- Assumes nothing.
 use native.Mathlib.Omega.{arith}
 use borrow.Author.Rules.{rules}
-use Rattle.lines.proofs.Taking.{nearer}
 use Rattle.console.proofs.Asking.{answered-none, answered-all, question-room, question-answered, illegible-room, illegible-last}
 use Rattle.console.proofs.ask.questions.Goals as goal
 
@@ -24,7 +23,7 @@ answer-requires-clause-room c =
 pub loop-reader-preserved : goal.loop-reader-preserved
 loop-reader-preserved c = record {
   answered = question-answered c.args.to.now c.loop-reader.to c.requires.room c.loop-reader.reader c.loop-reader.invariant.answered c.loop-reader-test.ensures c.in-Some.ensures c.answer.ensures;
-  numbered = omega (arith, nearer c.in-Some.ensures);
+  numbered = omega (arith, c.in-Some.ensures.further);
 }
 
 pub returns : goal.returns

@@ -6,10 +6,10 @@ use Rattle.lines.specs.Gives.{numbers_of}
 use Rattle.lines.proofs.Listing.{Listing}
 use Rattle.lines.proofs.form.listed.Given as goal
 
--- they were read up to place i
-abbrev pub invariant-loop-start : goal.invariant-loop-start
-invariant-loop-start l = Listing l.line l.at most_listed (numbers_of l.numbers) l.i
+-- the bytes behind them are left
+abbrev pub invariant-loop-rest : goal.invariant-loop-rest
+invariant-loop-rest l = Listing l.bytes most_listed (numbers_of l.numbers) l.rest
 
 -- more can follow
-abbrev pub decreases-loop-start : goal.decreases-loop-start
-decreases-loop-start l = most_listed - length (numbers_of l.numbers)
+abbrev pub decreases-loop-rest : goal.decreases-loop-rest
+decreases-loop-rest l = most_listed - length (numbers_of l.numbers)

@@ -23,5 +23,5 @@ returns-in_err-parts c =
 -- a machine line was
 pub returns : goal.returns
 returns c =
-    let same = ap (λ b. b.now) c.new-reader.ensures.0 in
+    let same = ap (λ b. b.now) c.new-reader.ensures in
     start-machine _ _ _ (at_first c.new-reader.result c.new-reader.ensures) (rw c.in_ok-n.ensures.ok_part at c.count.ensures) same c.in_ok-parts.ensures

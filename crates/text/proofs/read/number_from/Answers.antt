@@ -1,29 +1,30 @@
--- `text::read::number_from` meets its contract: the digits before i make v.
+-- `text::read::number_from` meets its contract: the digits that were read make v, and the others are read from there on.
 -- Assumes nothing.
-use Rattle.std.proofs.Common.{◌≡◌, length, arith}
-use Rattle.text.proofs.Finding.{reading-more, reading-large, reading-stop, reading-end}
+use Rattle.std.proofs.Common.{arith, ◌∙◌}
+use Rattle.std.proofs.lemmas.List.{take_rest}
+use Rattle.text.proofs.Finding.{number-stops, number-more, number-large}
 use Rattle.text.proofs.read.number_from.Goals as goal
-
--- a byte that is no digit ends the number
-pub returns-then-not-is_ascii_digit : goal.returns-then-not-is_ascii_digit
-returns-then-not-is_ascii_digit c = reading-stop c.loop-i.invariant (omega arith) c.if-not-is_ascii_digit.ensures.value
 
 -- a digit makes it too large
 pub returns-in_err-checked_mul : goal.returns-in_err-checked_mul
 returns-in_err-checked_mul c =
-    rw c.from_residual.ensures (reading-large c.loop-i.invariant (omega arith) c.if-not-is_ascii_digit.ensures.value (omega (arith, c.in_err-checked_mul.ensures)))
+    let large = number-large _ c.loop-rest.rest.now (omega arith) (record { low = omega arith; high = omega arith }) (omega (arith, c.in_err-checked_mul.ensures)) in
+    rw c.from_residual.ensures (large ∙ c.loop-rest.invariant)
 
 pub returns-in_err-v : goal.returns-in_err-v
 returns-in_err-v c =
-    rw c.from_residual-in_err-v.ensures (reading-large c.loop-i.invariant (omega arith) c.if-not-is_ascii_digit.ensures.value (omega (arith, c.in_ok-checked_mul.ensures, c.in_err-v.ensures)))
+    let (few, tens) = c.in_ok-checked_mul.ensures in
+    let large = number-large _ c.loop-rest.rest.now (omega arith) (record { low = omega arith; high = omega arith }) (omega (arith, c.in_err-v.ensures)) in
+    rw c.from_residual-in_err-v.ensures (large ∙ c.loop-rest.invariant)
 
 -- a digit goes on with it
-pub loop-i-preserved : goal.loop-i-preserved
-loop-i-preserved c =
+pub loop-rest-preserved : goal.loop-rest-preserved
+loop-rest-preserved c =
     let (few, tens) = c.in_ok-checked_mul.ensures in
     let (fits, sum) = c.in_ok-v.ensures in
-    reading-more c.loop-i.invariant (omega arith) c.if-not-is_ascii_digit.ensures.value (omega arith) (omega arith)
+    let more = number-more _ c.loop-rest.rest.now (omega arith) (record { low = omega arith; high = omega arith }) (take_rest _ 1) (omega arith) (omega arith) in
+    more ∙ c.loop-rest.invariant
 
--- the bytes' end ends it
+-- another byte ends it, or the bytes' end
 pub returns : goal.returns
-returns c = let end : c.loop-i.i ≡ length c.args.bytes.now = omega arith in rw (← end) (reading-end c.loop-i.invariant (omega arith))
+returns c = number-stops _ c.loop-rest.rest.now (λ h d. grind arith) ∙ c.loop-rest.invariant

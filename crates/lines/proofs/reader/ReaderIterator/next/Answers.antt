@@ -5,13 +5,13 @@ use Rattle.lines.proofs.NextLine.{takes-tail, takes_illegible, takes-line}
 use Rattle.lines.proofs.reader.ReaderIterator.next.Goals as goal
 
 -- no LF ends the line
-pub returns-in_err-end-clause-steps : goal.returns-in_err-end-clause-steps
-returns-in_err-end-clause-steps c = rw c.from_residual.ensures (takes-tail refl c.in_err-end.ensures)
+pub returns-in_err-first-clause-steps : goal.returns-in_err-first-clause-steps
+returns-in_err-first-clause-steps c = rw c.from_residual.ensures (takes-tail c.in_err-first.ensures)
 
 -- its bytes are illegible
 pub returns-in_err-line-clause-steps : goal.returns-in_err-line-clause-steps
-returns-in_err-line-clause-steps c = rw c.from_residual-in_err-line.ensures (takes_illegible refl c.in_ok-end.ensures c.in_err-line.ensures)
+returns-in_err-line-clause-steps c = rw c.from_residual-in_err-line.ensures (takes_illegible c.in_ok-first.ensures c.in_err-line.ensures)
 
 -- they are a form's
 pub returns-clause-steps : goal.returns-clause-steps
-returns-clause-steps c = takes-line refl c.in_ok-end.ensures refl c.in_ok-line.ensures
+returns-clause-steps c = takes-line c.in_ok-first.ensures refl c.in_ok-line.ensures
