@@ -141,10 +141,12 @@ sparse-loop rows ready side levels = record {
 }
 
 -- it begins at row 0, with the levels in the second half
-pub sparse-start : {s table work work' : List ℕ} → Ready s work → length work' ≡ length work → RowLevels s work' (2 * length s) 1
+pub sparse-start : {s table work work' : List ℕ} {at half from : ℕ} → (at ≡ visits (length s) + length s) × (half ≡ 1) × (from ≡ 2 * length s)
+    → Ready s work → length work' ≡ length work → RowLevels s work' (2 * length s) 1
     → length table ≡ tour_cells (length s) → Same table 0 (tour_table s) 0 (visits (length s) + length s + visits (length s))
-    → SparseLoop s table work' (visits (length s) + length s) 1 (2 * length s)
-sparse-start r kept levels cells same = sparse-loop (sparse_rows-start r cells same) (ready-kept r kept) (inr refl) levels
+    → SparseLoop s table work' at half from
+sparse-start first r kept levels cells same =
+    rw (first.0, first.1, first.2) (sparse-loop (sparse_rows-start r cells same) (ready-kept r kept) (inr refl) levels)
 
 -- where the row is not the last
 module _ {s table work : List ℕ} {at half from : ℕ} (l : SparseLoop s table work at half from) (h : 2 * half ≤ visits (length s)) where
@@ -167,6 +169,9 @@ module _ {s table work : List ℕ} {at half from : ℕ} (l : SparseLoop s table 
       }
 
   -- the loop at the next row, once it is the table's too and its levels stand in the other half
-  pub sparse-next : {table' work' : List ℕ} → SparseRows s table' (at + visits (length s)) (2 * half) → length work' ≡ length work
-      → RowLevels s work' (2 * length s - from) (2 * half) → SparseLoop s table' work' (at + visits (length s)) (2 * half) (2 * length s - from)
-  sparse-next rows kept levels = sparse-loop rows (ready-kept l.ready kept) (half-other (length s) from l.side) levels
+  pub sparse-next : {table' work' : List ℕ} {at' half' from' : ℕ}
+      → (at' ≡ at + visits (length s)) × (half' ≡ 2 * half) × (from' ≡ 2 * length s - from)
+      → SparseRows s table' (at + visits (length s)) (2 * half) → length work' ≡ length work
+      → RowLevels s work' (2 * length s - from) (2 * half) → SparseLoop s table' work' at' half' from'
+  sparse-next next rows kept levels =
+      rw (next.0, next.1, next.2) (sparse-loop rows (ready-kept l.ready kept) (half-other (length s) from l.side) levels)

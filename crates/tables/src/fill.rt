@@ -12,6 +12,7 @@ ghost use Rattle.tree.specs.Tables.{lent_by};
 ghost use Rattle.tables.specs.Sections.{Fits, Built};
 
 use labels::Column;
+use rows::sparse::Row;
 
 // All four, and work is cleared.
 pub(crate) fn tables(
@@ -69,18 +70,14 @@ fn sparse(parents: &[u16], label: &[u16], table: &mut [u16], work: &mut [u16])
 {
     let n = parents.len();
     let m = 2 * n - 1;
+    let mut row = Row::first(n);
     rows::sparse::first_row(parents, label, table, work);
-    cells::copy(table, m + n, work, 0, m);
-    let mut at = m + n;
-    let mut half = 1;
-    let mut from = 2 * n;
+    cells::copy(table, row.at, work, 0, m);
     // No index is counted: blocks grow twofold from row to row.
-    while 2 * half <= m {
-        rows::sparse::fill_row(parents, table, at, half, from, work);
-        rows::sparse::next_levels(parents, half, from, work);
-        at += m;
-        half = 2 * half;
-        from = 2 * n - from;
+    while 2 * row.half <= m {
+        row.fill_next(parents, table, work);
+        row.next_levels(parents, work);
+        row = row.next(n);
     }
 }
 

@@ -17,6 +17,7 @@ ghost use Rattle.tree.specs.Tables.{lent_in};
 ghost use Rattle.tables.specs.Sections.{Fits};
 
 use labels::Column;
+use rows::sparse::Row;
 use tree::{Lent, Refusal};
 
 // Test 8: the four tables end to end.
@@ -111,26 +112,22 @@ fn sparse(parents: &[u16], label: &[u16], table: &[u16], work: &mut [u16]) -> us
 {
     let n = parents.len();
     let m = 2 * n - 1;
-    let mut at = m + n;
-    let mut half = 1;
+    let mut row = Row::first(n);
     rows::sparse::first_row(parents, label, table, work);
-    let same = cells::agree(table, at, work, 0, m);
+    let same = cells::agree(table, row.at, work, 0, m);
     if same < m {
-        return at + same;
+        return row.at + same;
     }
-    let mut from = 2 * n;
     // No index is counted: blocks grow twofold from row to row.
-    while 2 * half <= m {
-        let same = rows::sparse::agree_row(parents, table, at, half, from, work);
+    while 2 * row.half <= m {
+        let same = row.agree_next(parents, table, work);
         if same < m {
-            return at + m + same;
+            return row.at + m + same;
         }
-        rows::sparse::next_levels(parents, half, from, work);
-        at += m;
-        half = 2 * half;
-        from = 2 * n - from;
+        row.next_levels(parents, work);
+        row = row.next(n);
     }
-    at + m
+    row.at + m
 }
 
 // The first cell of a lift table that is not the sheet's own; the table's length where there is none.

@@ -6,8 +6,8 @@ use Rattle.tree.specs.Buffers.{visits}
 use Rattle.tables.proofs.TableRows.{SparseLoop}
 use Rattle.tables.proofs.fill.sparse.Given as goal
 
-abbrev pub invariant-loop-half : goal.invariant-loop-half
-invariant-loop-half l = SparseLoop l.parents l.table l.work l.at l.half l.from
+abbrev pub invariant-loop-row : goal.invariant-loop-row
+invariant-loop-row l = SparseLoop l.parents l.table l.work l.row.at l.row.half l.row.from
 
-abbrev pub decreases-loop-half : goal.decreases-loop-half
-decreases-loop-half l = visits (length l.parents) - l.half
+abbrev pub decreases-loop-row : goal.decreases-loop-row
+decreases-loop-row l = visits (length l.parents) - l.row.half

@@ -12,31 +12,33 @@ first_row-requires c = sparse-first c.requires
 
 pub returns-then-same-m : goal.returns-then-same-m
 returns-then-same-m c =
-    agree-parts c.requires.2 c.agree-same.ensures c.first_row.ensures.1 (tour-room c.requires.0.ready) c.if-same-m.true
+    let begins = c.first-row.ensures.0 in
+    rw begins (agree-parts c.requires.2 (rw begins at c.agree-same.ensures) c.first_row.ensures.1 (tour-room c.requires.0.ready) c.if-same-m.true)
 
-pub loop-half-init : goal.loop-half-init
-loop-half-init c =
+pub loop-row-init : goal.loop-row-init
+loop-row-init c =
     let first = c.first_row in
-    let same = agree-all c.requires.2 c.agree-same.ensures first.ensures.1 c.if-same-m.false in
-    sparse-start c.requires.0.ready first.auto.work first.ensures.0 c.requires.1 same
+    let row = c.first-row.ensures in
+    let same = agree-all c.requires.2 (rw row.0 at c.agree-same.ensures) first.ensures.1 c.if-same-m.false in
+    sparse-start row c.requires.0.ready first.auto.work first.ensures.0 c.requires.1 same
 
-pub agree_row-same-requires : goal.agree_row-same-requires
-agree_row-same-requires c = sparse-row c.loop-half.invariant c.loop-half-test.true
+pub agree_next-same-requires : goal.agree_next-same-requires
+agree_next-same-requires c = sparse-row c.loop-row.invariant c.loop-row-test.true
 
 pub returns-then-same-m-2 : goal.returns-then-same-m-2
 returns-then-same-m-2 c =
-    rowwise-parts c.loop-half.invariant.rows c.loop-half-test.true c.agree_row-same.ensures.1 c.if-same-m-2.true
+    rowwise-parts c.loop-row.invariant.rows c.loop-row-test.true c.agree_next-same.ensures.1 c.if-same-m-2.true
 
 pub next_levels-requires : goal.next_levels-requires
 next_levels-requires c =
-    sparse-levels c.loop-half.invariant c.loop-half-test.true c.agree_row-same.auto.work c.agree_row-same.ensures.0
+    sparse-levels c.loop-row.invariant c.loop-row-test.true c.agree_next-same.auto.work c.agree_next-same.ensures.0
 
-pub loop-half-preserved : goal.loop-half-preserved
-loop-half-preserved c =
-    let l = c.loop-half.invariant in
+pub loop-row-preserved : goal.loop-row-preserved
+loop-row-preserved c =
+    let l = c.loop-row.invariant in
     let k = c.next_levels in
-    let rows = rowwise-agreed l.rows c.loop-half-test.true c.agree_row-same.ensures.1 c.if-same-m-2.false in
-    sparse-next l c.loop-half-test.true rows (k.auto.work ∙ c.agree_row-same.auto.work) k.ensures
+    let rows = rowwise-agreed l.rows c.loop-row-test.true c.agree_next-same.ensures.1 c.if-same-m-2.false in
+    sparse-next l c.loop-row-test.true c.next-row.ensures rows (k.auto.work ∙ c.agree_next-same.auto.work) k.ensures
 
 pub returns : goal.returns
-returns c = rowwise-none c.loop-half.invariant.rows c.loop-half-test.false
+returns c = rowwise-none c.loop-row.invariant.rows c.loop-row-test.false

@@ -1,12 +1,12 @@
--- `rows::sparse::next_levels` meets its contract: the levels of the next row's first i cells stand in the other half of work, those of the row in theirs.
+-- `rows::sparse::Row::next_levels` meets its contract: the levels of the next row's first i cells stand in the other half of work, those of the row in theirs.
 -- Assumes nothing.
 use native.Mathlib.Omega.{arith}
 use mathlib.Core.Path.{◌∙◌}
 use Rattle.rows.proofs.Heights.{TwoLevels, two-levels, lowered_none, lowered-more, lowered-all}
-use Rattle.rows.proofs.sparse.next_levels.Goals as goal
-use Rattle.rows.proofs.sparse.next_levels.Goals.{In-loop-i}
+use Rattle.rows.proofs.sparse.Row.next_levels.Goals as goal
+use Rattle.rows.proofs.sparse.Row.next_levels.Goals.{In-loop-i}
 
-facts : (c : In-loop-i) → TwoLevels c.args.parents.now c.loop-i.work c.args.half c.args.from c.loop-i.i
+facts : (c : In-loop-i) → TwoLevels c.args.parents.now c.loop-i.work c.args.self.half c.args.self.from c.loop-i.i
 facts c =
     let two = c.requires.two in
     two-levels c.requires c.loop-i.invariant.old c.loop-i.i (omega arith)

@@ -1,10 +1,10 @@
--- `rows::sparse::agree_row` meets its contract: the blocks that pass the end are compared with filled cells of work, beside the levels.
+-- `rows::sparse::Row::agree_next` meets its contract: the blocks that pass the end are compared with filled cells of work, beside the levels.
 -- Assumes nothing.
 use native.Mathlib.Omega.{arith}
 use Prim.Native.Nat.{◌-◌, ◌*◌}
 use Rattle.rows.proofs.Heights.{inside, levels-filled}
 use Rattle.rows.proofs.Halves.{next-room, agree-before, agree_after}
-use Rattle.rows.proofs.sparse.agree_row.Goals as goal
+use Rattle.rows.proofs.sparse.Row.agree_next.Goals as goal
 
 pub returns-then-same-end : goal.returns-then-same-end
 returns-then-same-end c =
@@ -13,7 +13,7 @@ returns-then-same-end c =
 pub fill-requires : goal.fill-requires
 fill-requires c =
     let p = c.requires.level-row in
-    let b = inside {k = 2 * c.args.half - 1} p.side (omega (arith, p.two, p.some)) in
+    let b = inside {k = 2 * c.args.self.half - 1} p.side (omega (arith, p.two, p.some)) in
     omega (arith, p.ready.room)
 
 pub agree-requires : goal.agree-requires
@@ -23,7 +23,7 @@ agree-requires c =
     let two = p.level-row.two in
     let some = p.level-row.some in
     let kept = c.fill.auto.cells in
-    let b = inside {k = 2 * c.args.half - 1} p.level-row.side (omega arith) in
+    let b = inside {k = 2 * c.args.self.half - 1} p.level-row.side (omega arith) in
     let cells = p.level-row.ready.room in
     (omega arith, omega arith)
 
