@@ -6,7 +6,7 @@ ghost use Rattle.lines.specs.Forms.{most_listed};
 // The most numbers of a many line.
 pub const MOST_LISTED: usize = 32;
 
-// Some numbers, in the order in which they stand in the line.
+// Some numbers, in the order in which they stand in the line: an array with a count, since a line is `Copy`, and the toolchain's `ArrayVec` is not.
 #[derive(Clone, Copy)]
 pub struct Numbers {
     cells: [u16; MOST_LISTED],
