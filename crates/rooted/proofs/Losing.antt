@@ -1,17 +1,14 @@
--- A sheet with one root: it passes tests 4 to 6, and has no lost part exactly if it is one rooted tree. With it, what a refusal of tests 4 to 7 gives.
+-- A sheet with one root: it passes tests 4 to 6, and has no lost part, and so passes test 7, exactly if it is one rooted tree.
 -- Assumes nothing.
 use Prim.Native.Nat.{ℕ, suc, ◌≤◌, ◌<◌, zero-le}
 use native.Mathlib.Nat.{le_refl, le_of_eq, lt_of_lt_of_le}
 use native.Mathlib.Omega.{arith}
 use mathlib.Core.Path.{◌≡◌, sym, ap, ◌∙◌}
-use mathlib.Core.Bool.{Bool}
 use mathlib.Core.List.{List}
 use borrow.Author.Tests.{not-false, lt-leb}
 use lib.ListN.{length}
-use Rattle.tree.specs.declared.Refusal.{Refusal}
-use Rattle.std.proofs.Common.{Err}
 use Rattle.tree.specs.Tree.{parent, climb, is_root, next_root, root_of, Tree}
-use Rattle.tree.specs.Verdict.{refused, number_of, place_of}
+use Rattle.tree.specs.Verdict.{accepted}
 use Rattle.tree.specs.Tests.{verdict, tree_tests, outside, lost, first_outside, first_lost}
 use Rattle.tree.specs.BottomUp.{OneRoot}
 use Rattle.tree.proofs.Scans.{by_order, least-before, least-none}
@@ -19,7 +16,7 @@ use Rattle.tree.proofs.Climbs.{climb-inside}
 use Rattle.tree.proofs.Roots.{is_root_lem, root_is, root_of_lem, second_none, meets-by-n}
 use Rattle.tree.proofs.Places.{cycle-place}
 use Rattle.tree.proofs.Verdicts.{not-both}
-use Rattle.rooted.specs.Tested.{TreeTested}
+use Rattle.tree.proofs.Answers.{refused-cycle, accepted-tree_tests}
 
 -- a sheet with one root passes tests 4 to 6
 pub record Passes (s : List ℕ) (r : ℕ) : Type 0 where
@@ -41,7 +38,7 @@ one_passes {s} {r} one =
     }
 
 -- on a tree none is lost
-pub none-lost : {s : List ℕ} → Tree s → length s ≡ first_lost s
+none-lost : {s : List ℕ} → Tree s → length s ≡ first_lost s
 none-lost {s} t =
     cycle-place s (length s) (le_refl _)
     (λ v h.
@@ -50,7 +47,7 @@ none-lost {s} t =
     (λ h. absurd (omega arith))
 
 -- and where none is, the sheet is a tree
-pub lost-none : {s : List ℕ} {r : ℕ} → OneRoot s r → length s ≤ first_lost s → Tree s
+lost-none : {s : List ℕ} {r : ℕ} → OneRoot s r → length s ≤ first_lost s → Tree s
 lost-none {s} {r} one none_is = record {
   inside = one.inside;
   root = r;
@@ -63,7 +60,15 @@ lost-none {s} {r} one none_is = record {
       record { steps = length s; reaches = one.only u (climb-inside s one.inside (length s) v h) (root_is s u met) };
 }
 
--- a refusal leaves no order
-pub tested-refused : {s w : List ℕ} {shift : ℕ} {ordered : Bool} (why : Refusal) → verdict (tree_tests shift s) ≡ refused (number_of why) (place_of why)
-    → TreeTested s shift ordered (Err why) w
-tested-refused why e = record { outcome = sym e; edges = λ _ a. absurd (not-both a e) }
+-- so a tree passes tests 4 to 7
+pub tree-passes : {s : List ℕ} {r : ℕ} (shift : ℕ) → OneRoot s r → Tree s → verdict (tree_tests shift s) ≡ accepted
+tree-passes {s} shift one t =
+    let p = one_passes one in
+    accepted-tree_tests shift s p.entries p.below p.none (le_of_eq (none-lost t))
+
+-- and a sheet with one root that passes them is a tree
+pub passed-tree : {s : List ℕ} {r : ℕ} (shift : ℕ) → OneRoot s r → verdict (tree_tests shift s) ≡ accepted → Tree s
+passed-tree {s} shift one accepts =
+    let p = one_passes one in
+    lost-none one
+    (by_order (length s) (first_lost s) (λ h. h) (λ b. absurd (not-both accepts (refused-cycle shift s p.entries p.below p.none b))))

@@ -6,14 +6,14 @@ use mathlib.Core.Path.{◌≡◌, refl, sym, ap, ◌∙◌}
 use mathlib.Core.Bool.{cond}
 use Rattle.std.proofs.Math.Nat.{le-max_left, le-max_right, max-le}
 use mathlib.Core.List.{List}
-use borrow.Author.Tests.{eq-eqb, ne_eqb, lt-ltb, le-ltb}
+use borrow.Author.Tests.{eq-eqb, ne_eqb}
 use lib.Bits.{bit_or, or_zero_l, or_zero_r}
-use lib.Dec.{eqb, ltb}
+use lib.Dec.{eqb}
 use lib.ListN.{length, get_or}
 use Rattle.tree.specs.Scan.{count_below}
 use Rattle.tree.specs.Tree.{parent, is_root}
 use Rattle.tree.specs.BottomUp.{OneRoot}
-use Rattle.tree.proofs.Scans.{by_equal, by_order, count-pos}
+use Rattle.tree.proofs.Scans.{by_equal, count-pos}
 use Rattle.tree.proofs.Roots.{is_root_lem, root_is}
 use Rattle.tree.proofs.Pigeonhole.{count-apart, count-cover}
 

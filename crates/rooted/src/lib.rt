@@ -6,11 +6,11 @@
 mod jumps;
 mod scan;
 
-ghost use Rattle.std.specs.Prelude.{◌≡◌, true, ℕ, ◌≤◌, length};
+ghost use Rattle.std.specs.Prelude.{◌≡◌, ℕ, ◌≤◌, length, MatchResult};
 ghost use Rattle.tree.specs.Tree.{root_of};
-ghost use Rattle.tree.specs.Verdict.{refused, number_of, place_of};
-ghost use Rattle.tree.specs.Tests.{limit, verdict, tree_tests, first_lost};
-ghost use Rattle.tree.specs.BottomUp.{OneRoot, Edges};
+ghost use Rattle.tree.specs.Verdict.{refused, number_of, place_of, verdict_of};
+ghost use Rattle.tree.specs.Tests.{limit, verdict, tree_tests};
+ghost use Rattle.tree.specs.BottomUp.{OneRoot};
 ghost use Rattle.rooted.specs.Jumps.{Roomy, Rooted};
 ghost use Rattle.rooted.specs.Tested.{TreeTested};
 
@@ -23,26 +23,38 @@ pub fn root(parents: &[u16]) -> usize
     scan::next_root(parents, 0)
 }
 
-// Tests 4 to 7, the parts counted from `shift` on. The loop test keeps its links in `work`; where the sheet is accepted and an order is asked for, the first
-// n − 1 cells are a bottom-up order afterwards, and the third n the entries beside it. Whether tests 4 to 6 pass is told by one pass; only where they do not,
-// the first that fails is looked for. A flag, since two functions in its place would differ in one call only, and a closure would carry `first_lost`'s contract.
-pub fn test_tree(
-    parents: &[u16],
-    shift: usize,
-    ordered: bool,
-    work: &mut [u16],
-) -> Result<(), Refusal>
+// Tests 4 to 7, the parts counted from `shift` on. The loop test keeps its links in `work`.
+pub fn test_tree(parents: &[u16], shift: usize, work: &mut [u16]) -> Result<(), Refusal>
     requires { Roomy parents.now work.old × (shift ≤ limit) }
-    ensures { TreeTested parents.now shift ordered result work.new }
+    ensures { verdict_of result ≡ verdict (tree_tests shift parents.now) }
 {
-    let Some(root) = scan::lone_root(parents) else {
-        return Err(refuse_root(parents, shift));
-    };
-    let v = first_lost(parents, root, ordered, work);
-    if v < parents.len() {
-        return Err(Refusal::Cycle(shift + v));
+    let root = one_root(parents, shift)?;
+    no_cycle(parents, root, shift, work)
+}
+
+// The same by taking leaves off: where the sheet is accepted, the first n − 1 cells of `work` are a bottom-up order afterwards, and the third n the entries
+// beside it. Where some leaves cannot be taken, a part's climb never meets the root, and it is looked for.
+pub fn test_tree_bottom_up(parents: &[u16], shift: usize, work: &mut [u16]) -> Result<(), Refusal>
+    requires { Roomy parents.now work.old × (shift ≤ limit) }
+    ensures { TreeTested parents.now shift result work.new }
+{
+    let root = one_root(parents, shift)?;
+    if leaves::bottom_up(parents, work) {
+        return Ok(());
     }
-    Ok(())
+    no_cycle(parents, root, shift, work)
+}
+
+// The root of a sheet that passes tests 4 to 6. Whether they pass is told by one pass; only where they do not, the first that fails is looked for.
+fn one_root(parents: &[u16], shift: usize) -> Result<usize, Refusal>
+    requires { (length parents.now ≤ limit) × (shift ≤ limit) }
+    ensures { MatchResult result (OneRoot parents.now)
+        (λ why. verdict (tree_tests shift parents.now) ≡ refused (number_of why) (place_of why)) }
+{
+    match scan::lone_root(parents) {
+        Some(root) => Ok(root),
+        None => Err(refuse_root(parents, shift)),
+    }
 }
 
 // Why a sheet is refused that does not pass tests 4 to 6.
@@ -63,26 +75,14 @@ fn refuse_root(parents: &[u16], shift: usize) -> Refusal
     Refusal::SecondRoot(shift + second)
 }
 
-// The lowest part whose climb never meets the root; the number of parts where there is none.
-fn first_lost(parents: &[u16], root: usize, ordered: bool, work: &mut [u16]) -> usize
-    requires { Rooted parents.now work.old root }
-    ensures { (result ≡ first_lost parents.now)
-        × (ordered ≡ true → result ≡ length parents.now → Edges parents.now work.new) }
+// Test 7, of a sheet that passes tests 4 to 6.
+fn no_cycle(parents: &[u16], root: usize, shift: usize, work: &mut [u16]) -> Result<(), Refusal>
+    requires { Rooted parents.now work.old root × (shift ≤ limit) }
+    ensures { verdict_of result ≡ verdict (tree_tests shift parents.now) }
 {
-    if ordered {
-        return lost_by_leaves(parents, root, work);
+    let v = jumps::first_cycle(parents, root, work);
+    if v < parents.len() {
+        return Err(Refusal::Cycle(shift + v));
     }
-    jumps::first_cycle(parents, root, work)
-}
-
-// The same by taking leaves off, which leaves an order: where some cannot be taken there is such a part, and it is looked for.
-fn lost_by_leaves(parents: &[u16], root: usize, work: &mut [u16]) -> usize
-    requires { Rooted parents.now work.old root }
-    ensures { (result ≡ first_lost parents.now)
-        × (result ≡ length parents.now → Edges parents.now work.new) }
-{
-    if leaves::bottom_up(parents, work) {
-        return parents.len();
-    }
-    jumps::first_cycle(parents, root, work)
+    Ok(())
 }

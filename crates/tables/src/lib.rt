@@ -44,7 +44,7 @@ pub fn admit_bottom_up(parents: &[u16], further: usize, work: &mut [u16]) -> Res
 {
     let unfit = lower_unfit(fits::work_unfit(4 * parents.len(), work.len()), further);
     test_sizes(parents.len(), unfit)?;
-    let r = rooted::test_tree(parents, 0, true, work);
+    let r = rooted::test_tree_bottom_up(parents, 0, work);
     if r.is_err() {
         cells::clear(work);
     }
@@ -142,7 +142,7 @@ fn admit(parents: &[u16], unfit: usize, work: &mut [u16]) -> Result<(), Refusal>
 {
     test_sizes(parents.len(), unfit)?;
     cells::clear(work);
-    let r = rooted::test_tree(parents, 0, false, work);
+    let r = rooted::test_tree(parents, 0, work);
     cells::clear(work);
     r
 }

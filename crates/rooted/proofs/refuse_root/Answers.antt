@@ -3,10 +3,9 @@
 -- Assumes nothing.
 use Prim.Native.Nat.{ℕ, suc, ◌+◌, ◌≤◌, ◌<◌}
 use native.Mathlib.Omega.{arith}
-use mathlib.Core.Path.{◌≡◌, refl, sym, ap, ◌∙◌}
+use mathlib.Core.Path.{◌≡◌, sym, ap, ◌∙◌}
 use mathlib.Core.List.{List}
 use lib.ListN.{length}
-use Rattle.tree.specs.declared.Refusal.TheVariants.{ParentOutOfRange, NoRoot, SecondRoot}
 use Rattle.tree.specs.Tree.{next_root, root_of}
 use Rattle.tree.specs.Verdict.{refused}
 use Rattle.tree.specs.Tests.{first_outside}

@@ -25,5 +25,5 @@ pub returns : goal.returns
 returns c =
     let a = c.args in
     let same = c.test_tree-r.auto.work ∙ c.clear.auto.buffer in
-    tree-tested a.parents.now a.unfit c.test_sizes.ensures c.in_ok-test_sizes.was c.test_tree-r.ensures.outcome
+    tree-tested a.parents.now a.unfit c.test_sizes.ensures c.in_ok-test_sizes.was c.test_tree-r.ensures
     (c.clear-2.ensures ∙ ap (λ k. replicate k 0) same)

@@ -2,7 +2,7 @@
 -- Assumes nothing.
 use Prim.Native.Nat.{ℕ}
 use native.Mathlib.Omega.{arith}
-use mathlib.Core.Path.{◌≡◌, refl, sym, ap, ◌∙◌}
+use mathlib.Core.Path.{◌≡◌, sym, ap, ◌∙◌}
 use lib.Dec.{lit≤}
 use lib.ListN.{length, replicate}
 use Rattle.tree.specs.Verdict.{verdict_of}
@@ -31,23 +31,23 @@ returns-in_err-test_sizes c =
     order-refused (sizes-refuse c.args.parents.now (unfit (goal.at.returns-in_err-test_sizes c).After-test_sizes)
     (told (goal.at.returns-in_err-test_sizes c).After-test_sizes) c.args.work.now no same) (ap verdict_of same)
 
-pub test_tree-r-requires : goal.test_tree-r-requires
-test_tree-r-requires c =
+pub test_tree_bottom_up-r-requires : goal.test_tree_bottom_up-r-requires
+test_tree_bottom_up-r-requires c =
     let s = c.args in
     let (some, small, fits) =
-    sizes-hold c.args.parents.now (unfit (goal.at.test_tree-r-requires c).After-test_sizes)
-    (told (goal.at.test_tree-r-requires c).After-test_sizes) c.in_ok-test_sizes.was in
+    sizes-hold c.args.parents.now (unfit (goal.at.test_tree_bottom_up-r-requires c).After-test_sizes)
+    (told (goal.at.test_tree_bottom_up-r-requires c).After-test_sizes) c.in_ok-test_sizes.was in
     let (room, _) = sheet-exact c.args.parents.now s.work.now s.further fits in
     (record { small = small; room = omega arith }, lit≤ tt)
 
 pub returns-then-is_err : goal.returns-then-is_err
 returns-then-is_err c =
-    let same = c.test_tree-r.auto.work in
+    let same = c.test_tree_bottom_up-r.auto.work in
     let tested =
     tree-tested c.args.parents.now (unfit (goal.at.returns-then-is_err c).After-test_sizes)
-    (told (goal.at.returns-then-is_err c).After-test_sizes) c.in_ok-test_sizes.was c.test_tree-r.ensures.outcome
+    (told (goal.at.returns-then-is_err c).After-test_sizes) c.in_ok-test_sizes.was c.test_tree_bottom_up-r.ensures.outcome
     (c.clear.ensures ∙ ap (λ k. replicate k 0) same) in
-    let (why, is) = error_of c.test_tree-r.result (sym c.if-is_err.ensures.value) in
+    let (why, is) = error_of c.test_tree_bottom_up-r.result (sym c.if-is_err.ensures.value) in
     order-refused tested (ap verdict_of is)
 
 pub returns-else-is_err : goal.returns-else-is_err
@@ -55,9 +55,9 @@ returns-else-is_err c =
     let decides =
     tree-decides c.args.parents.now (unfit (goal.at.returns-else-is_err c).After-test_sizes) (told (goal.at.returns-else-is_err c).After-test_sizes)
     c.in_ok-test_sizes.was in
-    let accepts = sym c.test_tree-r.ensures.outcome ∙ no_error c.test_tree-r.result (sym c.if-is_err.ensures.value) in
+    let accepts = sym c.test_tree_bottom_up-r.ensures.outcome ∙ no_error c.test_tree_bottom_up-r.result (sym c.if-is_err.ensures.value) in
     record {
-      outcome = c.test_tree-r.ensures.outcome ∙ sym decides;
+      outcome = c.test_tree_bottom_up-r.ensures.outcome ∙ sym decides;
       refusal = λ number place no. absurd (not-both (decides ∙ accepts) no);
-      edges = λ _. c.test_tree-r.ensures.edges refl accepts;
+      edges = λ _. c.test_tree_bottom_up-r.ensures.edges accepts;
     }

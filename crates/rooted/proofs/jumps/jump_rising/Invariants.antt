@@ -1,6 +1,5 @@
 -- `rooted::jumps::jump_rising` meets its contract: the pass has yet to come to the parts from v on.
 -- Assumes nothing.
-use Prim.Native.Nat.{◌-◌}
 use lib.ListN.{length}
 use Rattle.rooted.proofs.Jumping.{Jumping}
 use Rattle.rooted.proofs.jumps.jump_rising.Given as goal

@@ -1,7 +1,6 @@
 -- `rooted::scan::lone_root` meets its contract: where one part was found that names itself, and no entry too large, it is the one root.
 -- Assumes nothing.
-use Prim.Native.Nat.{◌-◌, ◌<◌}
-use lib.ListN.{length}
+use Prim.Native.Nat.{◌<◌}
 use Rattle.rooted.proofs.Surveying.{Surveyed}
 use Rattle.rooted.proofs.scan.lone_root.Given as goal
 

@@ -1,6 +1,6 @@
 -- `rooted::scan::next_root` meets its contract: no part passed names itself.
 -- Assumes nothing.
-use Prim.Native.Nat.{ℕ, ◌-◌, ◌≤◌, ◌<◌}
+use Prim.Native.Nat.{ℕ, ◌≤◌, ◌<◌}
 use lib.ListN.{length, get_or}
 use mathlib.Core.Logic.{◌≢◌}
 use Rattle.rooted.proofs.scan.next_root.Given as goal
