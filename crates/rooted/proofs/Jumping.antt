@@ -5,7 +5,9 @@ use native.Mathlib.Nat.{le_refl, zero-add}
 use native.Mathlib.Omega.{arith}
 use mathlib.Core.Path.{◌≡◌, refl, sym, ap, ◌∙◌, subst}
 use mathlib.Core.Logic.{◌≢◌}
-use mathlib.Core.Bool.{true, false}
+use mathlib.Core.Bool.{Bool, true, false}
+use borrow.Author.Tests.{eqb-true}
+use lib.Dec.{eqb}
 use mathlib.Core.List.{List}
 use lib.Bits.{bit_or, bit_xor}
 use lib.ListN.{length, get_or, set, length-set}
@@ -128,11 +130,11 @@ module _ {s w₀ w : List ℕ} {r a e bits : ℕ} (g : Jumping s w₀ w r a e bi
   jumping-fall hop = jumping-step g (omega (arith, g.ends)) (omega arith) (λ v q p b l. p b (omega arith)) hop
 
 -- it has come to all
-pub jumping-end : {s w₀ w : List ℕ} {r a e bits : ℕ} → Jumping s w₀ w r a e bits → e ≤ a → Jumped s w₀ r bits w
+pub jumping-end : {s w₀ w : List ℕ} {r a e bits : ℕ} → Jumping s w₀ w r a e bits → e ≤ a → Jumped s w₀ r (eqb bits 0) w
 jumping-end {s} {w₀} {w} {r} {a} {e} g h =
     let none : (v : ℕ) → Passed a e v = λ v b l. omega arith in record {
       twice = λ k l. record { link = λ v b. (g.between k l).passed v b (none v) };
-      all = λ z v b. g.all z v b (none v);
+      all = λ z v b. g.all (eqb-true _ _ z) v b (none v);
     }
 
 -- ---- pass by pass
@@ -150,7 +152,7 @@ links-start {s} e g p = record {
 }
 
 -- each pass makes the links longer
-pub links-twice : {s w w' : List ℕ} {r k bits : ℕ} → length w' ≡ length w → Links s w r k → Jumped s w r bits w' → Links s w' r (2 * k)
+pub links-twice : {s w w' : List ℕ} {r k : ℕ} {done : Bool} → length w' ≡ length w → Links s w r k → Jumped s w r done w' → Links s w' r (2 * k)
 links-twice {k = k} e g jumped = record { rooted = rooted-kept e g.rooted; linked = jumped.twice k g.linked }
 
 -- links of more steps are links of fewer
@@ -179,7 +181,7 @@ linked-elsewhere {s} {w} {r} {v} one l h q =
     (λ e. e)
 
 -- after a pass that gives 0 there is no loop
-pub no-cycle : {s w w' : List ℕ} {r k bits : ℕ} → Links s w r k → Jumped s w r bits w' → bits ≡ 0 → length s ≡ first_lost s
+pub no-cycle : {s w w' : List ℕ} {r k : ℕ} {done : Bool} → Links s w r k → Jumped s w r done w' → done ≡ true → length s ≡ first_lost s
 no-cycle {s} {k = k} g jumped z =
     cycle-place s (length s) (le_refl _)
     (λ v h. linked-root g.rooted.one (jumped.twice k g.linked) h (jumped.all z v h))

@@ -1,6 +1,6 @@
 -- Links, by which the loop test follows the climbs of all parts at once: each part has a cell that names a part some steps up from it.
 -- Assumes nothing.
-use Rattle.std.specs.Prelude.{ℕ, ◌*◌, ◌≤◌, ◌<◌, ◌≡◌, List, length, get_or, set}
+use Rattle.std.specs.Prelude.{ℕ, ◌*◌, ◌≤◌, ◌<◌, ◌≡◌, List, length, get_or, set, Bool, true}
 use Rattle.tree.specs.Tree.{climb}
 use Rattle.tree.specs.Tests.{limit}
 use Rattle.tree.specs.BottomUp.{OneRoot}
@@ -35,7 +35,7 @@ pub record Hopped (w : List ℕ) (v up : ℕ) (w' : List ℕ) : Type 0 where
   pub to : up ≡ get_or w (get_or w v 0) 0
   pub now : w' ≡ set w v up
 
--- every link has been, so that each is twice as long; 0 says that all are the root
-pub record Jumped (s w : List ℕ) (r bits : ℕ) (w' : List ℕ) : Type 0 where
+-- every link has been, so that each is twice as long; and the answer says that all are the root
+pub record Jumped (s w : List ℕ) (r : ℕ) (done : Bool) (w' : List ℕ) : Type 0 where
   pub twice : (k : ℕ) → Linked s w k → Linked s w' (2 * k)
-  pub all : bits ≡ 0 → (v : ℕ) → v < length s → get_or w' v 0 ≡ r
+  pub all : done ≡ true → (v : ℕ) → v < length s → get_or w' v 0 ≡ r

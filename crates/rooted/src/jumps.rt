@@ -15,10 +15,10 @@ pub(crate) fn first_cycle(parents: &[u16], root: usize, work: &mut [u16]) -> usi
     let mut steps = 1;
     // No index is counted: a round makes every link at least four times as long.
     while steps < n {
-        if jump_rising(parents, root, work) == 0 {
+        if jump_rising(parents, root, work) {
             return n;
         }
-        if jump_falling(parents, root, work) == 0 {
+        if jump_falling(parents, root, work) {
             return n;
         }
         steps = 4 * steps;
@@ -27,31 +27,32 @@ pub(crate) fn first_cycle(parents: &[u16], root: usize, work: &mut [u16]) -> usi
 }
 
 // Replaces each part's link by its link's link, in place and in rising order: a part that is linked to a lower one gets the link that the lower
-// one has just got. 0 only where all are the root then.
-fn jump_rising(parents: &[u16], root: usize, work: &mut [u16]) -> u16
+// one has just got. Whether all are the root then.
+fn jump_rising(parents: &[u16], root: usize, work: &mut [u16]) -> bool
     requires { Links parents.now work.old root 0 }
     ensures { Jumped parents.now work.old root result work.new }
 {
     let n = parents.len();
     let top = root as u16;
-    let mut bits: u16 = 0;
+    let mut bits = 0;
     for v in 0..n {
         bits |= hop(v, work) ^ top;
     }
-    bits
+    bits == 0
 }
 
-// The same in falling order, which serves the parts that are linked to higher ones.
-fn jump_falling(parents: &[u16], root: usize, work: &mut [u16]) -> u16
+// The same in falling order, which serves the parts that are linked to higher ones. Two loops: they differ in their order alone, but in place that is what each
+// is about, and its invariant speaks of.
+fn jump_falling(parents: &[u16], root: usize, work: &mut [u16]) -> bool
     requires { Links parents.now work.old root 0 }
     ensures { Jumped parents.now work.old root result work.new }
 {
     let top = root as u16;
-    let mut bits: u16 = 0;
+    let mut bits = 0;
     for v in (0..parents.len()).rev() {
         bits |= hop(v, work) ^ top;
     }
-    bits
+    bits == 0
 }
 
 // Replaces the link of v by its link's link.

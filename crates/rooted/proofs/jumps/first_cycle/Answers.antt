@@ -23,16 +23,16 @@ loop-steps-init c =
 pub jump_rising-requires : goal.jump_rising-requires
 jump_rising-requires c = links-less zero-le c.loop-steps.invariant.2
 
-pub returns-then-jump_rising-eq0 : goal.returns-then-jump_rising-eq0
-returns-then-jump_rising-eq0 c =
-    no-cycle c.loop-steps.invariant.2 c.jump_rising.ensures c.if-jump_rising-eq0.true
+pub returns-then-jump_rising : goal.returns-then-jump_rising
+returns-then-jump_rising c =
+    no-cycle c.loop-steps.invariant.2 c.jump_rising.ensures c.if-jump_rising.true
 
 pub jump_falling-requires : goal.jump_falling-requires
 jump_falling-requires c = links-less zero-le (risen (goal.at.jump_falling-requires c).After-jump_rising)
 
-pub returns-then-jump_falling-eq0 : goal.returns-then-jump_falling-eq0
-returns-then-jump_falling-eq0 c =
-    no-cycle (risen (goal.at.returns-then-jump_falling-eq0 c).After-jump_rising) c.jump_falling.ensures c.if-jump_falling-eq0.true
+pub returns-then-jump_falling : goal.returns-then-jump_falling
+returns-then-jump_falling c =
+    no-cycle (risen (goal.at.returns-then-jump_falling c).After-jump_rising) c.jump_falling.ensures c.if-jump_falling.true
 
 pub loop-steps-preserved : goal.loop-steps-preserved
 loop-steps-preserved c =
