@@ -29,7 +29,7 @@ impl<'a> Reader<'a> {
     }
 }
 
-// Takes the line at the reader's position, and moves behind it; nothing, and the position stays, where there is none or it is illegible.
+// Takes the line at the reader's position, and moves behind it; nothing where there is none or it is illegible.
 impl Iterator for Reader<'_> {
     type Item = Line;
 
