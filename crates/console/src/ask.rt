@@ -84,7 +84,7 @@ fn lifted(x: u16, y: u16, found: PairAnswer, lent: Lent<'_, '_>, work: &mut [u16
     ensures { Writes to.old (Run·answer lent.entry.parents.now (Forms·pair x y)) to.new }
 {
     let mut answer = [0u16; 1];
-    let mut rows = [0u16; 64];
+    let mut rows = [0u16; routes::TRAIL_CELLS];
     match routes::trail(lent, work, &[x, y], &mut answer, &mut rows) {
         Ok(lifts) => print::pair(to, x, y, found, lifts),
         Err(why) => print::refusal(to, why),

@@ -8,7 +8,7 @@ ghost use Rattle.tree.specs.Tables.{lent_in};
 ghost use Rattle.tree.specs.Nodes.{Small};
 ghost use Rattle.routes.specs.Answers.{Admitted};
 
-use crate::ANSWER_CELLS;
+use crate::{ANSWER_CELLS, TRAIL_CELLS};
 use tree::{Fit, Lent, OwnTables, Refusal, first_unfit};
 
 // The numbers of the buffers, as tree/specs/Buffers has them.
@@ -68,7 +68,7 @@ pub(crate) fn trail_unfit(question: &[u16], answer: &[u16], rows: &[u16]) -> usi
     first_unfit(&[
         Fit::exact(QUESTION, 2, question.len()),
         Fit::exact(ANSWER, 1, answer.len()),
-        Fit::exact(TRAIL, 64, rows.len()),
+        Fit::exact(TRAIL, TRAIL_CELLS, rows.len()),
     ])
 }
 

@@ -26,6 +26,9 @@ pub enum Route {
 // The cells of a pair's answer: its carrier, and the branch from there towards x and towards y.
 pub const ANSWER_CELLS: usize = 3;
 
+// The cells of a trail: 32 rows of two.
+pub const TRAIL_CELLS: usize = 64;
+
 // The answer to each pair by labels, one of three calls that C has and README names: `question` lists the pairs, `answer` has three cells for each.
 pub fn pairs_by_labels(
     lent: Lent<'_, '_>,
