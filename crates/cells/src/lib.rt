@@ -1,5 +1,6 @@
-// Stretches of cells: filling one, or all, clearing all, copying one from another buffer, finding the first cell in which two differ, the first that is
-// too large, and whether all hold one value. A stretch is told by where it begins and how many cells it has, and is not lent as a slice, since contracts speak of the places of a whole table.
+// Stretches of cells: filling one, or all, clearing all, copying one from another buffer, finding the first cell in which two differ, the first that is too
+// large, and whether all hold one value. A stretch is told by where it begins and how many cells it has, and is not lent as a slice, since contracts speak of
+// the places of a whole table.
 
 #![tactic(auto)]
 

@@ -6,7 +6,8 @@ ghost use Rattle.tree.specs.Tests.{limit};
 ghost use Rattle.tree.specs.Ready.{Ready, NumbersIn};
 ghost use Rattle.preorder.specs.Walk.{Links, Walks, Numbered, first_of, end_of};
 
-// The links: each node's lowest child in the first n cells of work and its next sibling in the next n, or n where there is none, as `Links` and `first_of` of specs/Walk have it.
+// The links: each node's lowest child in the first n cells of work and its next sibling in the next n, or n where there is none, as `Links` and `first_of` of
+// specs/Walk have it.
 pub(crate) fn link(parents: &[u16], work: &mut [u16])
     requires { Ready parents.now work.old }
     ensures { Links parents.now work.new }

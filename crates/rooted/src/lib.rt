@@ -1,5 +1,5 @@
-// Whether a sheet is one rooted tree: tests 4 to 7 of document 01's table, and its root. The loop test takes a few passes, usually, and at most log n + 2; where
-// a bottom-up order is asked for as well, taking leaves off is the loop test.
+// Whether a sheet is one rooted tree: tests 4 to 7 of document 01's table, and its root. The loop test takes a few passes, usually, and at most log n + 2;
+// where a bottom-up order is asked for as well, taking leaves off is the loop test.
 
 #![tactic(auto)]
 
