@@ -28,13 +28,6 @@ no_bits bits x y e =
     let none = or-none bits (bit_xor x y) e in
     (none.0, omega (arith, none.1, xor_add_and x y, and_le_l x y, and_le_r x y))
 
--- stretches that are equal as slices
-pub same-slices : (a b : List ℕ) (i j k : ℕ) → between i (i + k) a ≡ between j (j + k) b → Same a i b j k
-same-slices a b i j k e = record {
-  cell = λ x h.
-      sym (get_or-between a i (i + k) x 0 (omega arith)) ∙ ap (λ (l : List ℕ). get_or l x 0) e ∙ get_or-between b j (j + k) x 0 (omega arith);
-}
-
 -- what agrees with a stretch that equals another agrees with the other
 pub agree_same : {a b c : List ℕ} {i j l k r : ℕ} → Agree a i b j k r → Same b j c l k → Agree a i c l k r
 agree_same g q =

@@ -6,6 +6,7 @@
 
 ghost use Rattle.std.specs.Prelude.{◌≡◌, true, ℕ, ◌+◌, ◌≤◌, ◌<◌, leb, length, get_or, replicate, position};
 ghost use Rattle.tree.specs.Scan.{least};
+ghost use Rattle.tree.specs.Sections.{Same};
 ghost use Rattle.cells.specs.Cells.{Filled, Copied, Agree};
 
 // No cell: what a cell of a table holds where there is none.
@@ -46,7 +47,7 @@ pub fn agree(a: &[u16], at: usize, b: &[u16], start: usize, count: usize) -> usi
     requires { (at + count ≤ length a.now) × (start + count ≤ length b.now) }
     ensures { Agree a.now at b.now start count result }
 {
-    if a[at..at + count] == b[start..start + count] {
+    if same(a, at, b, start, count) {
         return count;
     }
     for i in 0..count {
@@ -55,6 +56,18 @@ pub fn agree(a: &[u16], at: usize, b: &[u16], start: usize, count: usize) -> usi
         }
     }
     count
+}
+
+// Whether the stretches are equal: no bit differs in any cell. It stops at no cell, so that several are compared at once; `==` of the slices would stop.
+fn same(a: &[u16], at: usize, b: &[u16], start: usize, count: usize) -> bool
+    requires { (at + count ≤ length a.now) × (start + count ≤ length b.now) }
+    ensures { result ≡ true → Same a.now at b.now start count }
+{
+    let mut bits = 0;
+    for i in 0..count {
+        bits |= a[at + i] ^ b[start + i];
+    }
+    bits == 0
 }
 
 // Whether the `count` cells from `first` on all hold `value`: no bit differs in any. It stops at no cell, so that several are compared at once.

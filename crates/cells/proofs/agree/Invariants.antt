@@ -1,4 +1,4 @@
--- `cells::agree` meets its contract: the stretches are equal as slices, or the i cells passed are the same.
+-- `cells::agree` meets its contract: no bit differs, or the i cells passed are the same.
 -- Assumes nothing.
 use Rattle.tree.specs.Sections.{Same}
 use Rattle.cells.proofs.agree.Given as goal
