@@ -38,7 +38,7 @@ one_passes {s} {r} one =
     }
 
 -- on a tree none is lost
-none-lost : {s : List ℕ} → Tree s → length s ≡ first_lost s
+pub none-lost : {s : List ℕ} → Tree s → length s ≡ first_lost s
 none-lost {s} t =
     cycle-place s (length s) (le_refl _)
     (λ v h.
@@ -47,7 +47,7 @@ none-lost {s} t =
     (λ h. absurd (omega arith))
 
 -- and where none is, the sheet is a tree
-lost-none : {s : List ℕ} {r : ℕ} → OneRoot s r → length s ≤ first_lost s → Tree s
+pub lost-none : {s : List ℕ} {r : ℕ} → OneRoot s r → length s ≤ first_lost s → Tree s
 lost-none {s} {r} one none_is = record {
   inside = one.inside;
   root = r;

@@ -1,9 +1,9 @@
 // What a question is tested for before it is answered.
 
-ghost use Rattle.std.specs.Prelude.{◌≡◌, length, IfOk};
+ghost use Rattle.std.specs.Prelude.{◌≡◌, eqb, length, IfOk};
 ghost use Rattle.tree.specs.Verdict.{verdict_of};
 ghost use Rattle.tree.specs.Tests.{verdict, question_tests};
-ghost use Rattle.tree.specs.Buffers.{pairs_fits, trail_fits, list_fits, first_unfit};
+ghost use Rattle.tree.specs.Buffers.{answer_cells, pairs_fits, trail_fits, list_fits, first_unfit};
 ghost use Rattle.tree.specs.Tables.{lent_in};
 ghost use Rattle.tree.specs.Nodes.{Small};
 ghost use Rattle.routes.specs.Answers.{Admitted};
@@ -57,8 +57,18 @@ pub(crate) fn pairs_unfit(question: &[u16], answer: &[u16]) -> usize
             buffer: QUESTION,
             fits: question.len() % 2 == 0,
         },
-        Fit::exact(ANSWER, question.len() / 2 * ANSWER_CELLS, answer.len()),
+        Fit {
+            buffer: ANSWER,
+            fits: has_cells_for_each(question.len(), answer.len()),
+        },
     ])
+}
+
+// Whether an answer has three cells for each pair of a question, by their lengths: no rest, and as many threes as pairs, so that no product is formed.
+fn has_cells_for_each(question: usize, answer: usize) -> bool
+    ensures { result ≡ eqb answer (answer_cells question) }
+{
+    answer % ANSWER_CELLS == 0 && answer / ANSWER_CELLS == question / 2
 }
 
 // The same of a call for a trail.
