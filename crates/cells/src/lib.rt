@@ -39,7 +39,10 @@ pub fn copy(to: &mut [u16], at: usize, from: &[u16], start: usize, count: usize)
     requires { (at + count ≤ length to.old) × (start + count ≤ length from.now) }
     ensures { Copied to.old at from.now start count to.new }
 {
-    to[at..at + count].copy_from_slice(&from[start..start + count]);
+    // The slices' own `copy_from_slice` becomes a call of `memmove`, which the archive for C would then need from outside.
+    for i in 0..count {
+        to[at + i] = from[start + i];
+    }
 }
 
 // How many of the `count` cells of `a` from `at` on are equal to those of `b` from `start` on, before the first that is not.
