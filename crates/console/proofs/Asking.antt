@@ -21,7 +21,7 @@ use Rattle.text.proofs.Putting.{room-first}
 use Rattle.text.proofs.Writing.{writes_none, has-then, writes_then}
 use Rattle.lines.specs.Forms.{Query, Form, machine, part, asked}
 use Rattle.lines.specs.Read.{read, next, query, next_as}
-use Rattle.lines.specs.Gives.{query_of, rest_of, left_by}
+use Rattle.lines.specs.Gives.{query_of, bytes_of, rest_of, left_by}
 use Rattle.lines.specs.declared.reader.Reader.{Reader}
 use Rattle.lines.specs.declared.form.Question.{Question}
 use Rattle.console.specs.Run.{illegible, answer, leftover, questions}
@@ -67,7 +67,7 @@ lines-some x b e =
 -- no bytes are no line
 none_left : (reader : Reader) → left_by reader ≡ 0 → rest_of reader ≡ tail []
 unfolding lines
-none_left reader h = rw (nil_from_length reader.rest.now h) refl
+none_left reader h = rw (nil_from_length (bytes_of reader) h) refl
 
 -- some bytes are one, or the beginning of one
 some_left : (b : List ℕ) → 0 < length b → lines b ≡ tail [] → ⊥
@@ -77,7 +77,7 @@ some_left (x ∷ b) h = lines-some x b
 -- what was found says what is printed from there on
 here-prints : (before after : Reader) {r : std.Option Question} (s : List ℕ) (number : ℕ) → AsksGive before after r → 0 < left_by before
     → questions s number (rest_of before) ≡ printed s number (found_as (λ q. (query_of q, rest_of after)) r)
-here-prints before after s number g h = line-prints s number (rest_of before) (some_left before.rest.now h) ∙ ap (printed s number) (sym g.is)
+here-prints before after s number g h = line-prints s number (rest_of before) (some_left (bytes_of before) h) ∙ ap (printed s number) (sym g.is)
 
 -- ---- the loop
 

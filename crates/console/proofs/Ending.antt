@@ -9,7 +9,7 @@ use lib.ListN.{length}
 use Rattle.std.specs.Prelude as std
 use Rattle.std.specs.Prelude.{Ok, Err}
 use Rattle.tree.specs.declared.Refusal.{Refusal}
-use denote.Ref.{MutBor}
+use denote.Ref.{Bor, MutBor}
 use Rattle.text.specs.Writes.{HasRoom, Writes, Begins}
 use Rattle.text.specs.declared.write.Writer.{Writer}
 use Rattle.text.proofs.Putting.{over-start}
@@ -37,9 +37,9 @@ start-prints (Ok (n, reader)) = refl
 start-prints (Err why) = refl
 
 -- an input within the limit prints it
-pub output-within : {input : List ℕ} {r : std.Result (ℕ × Reader) Refusal} → length input ≤ most_bytes → StartGives input r → start_text r ≡ output input
+pub output-within : {input : Bor (List ℕ)} {r : std.Result (ℕ × Reader) Refusal} → length input.now ≤ most_bytes → StartGives input r → start_text r ≡ output input.now
 unfolding run output
-output-within {input} {r} h g = start-prints r ∙ ap machine_run g.is ∙ rw (le-leb (length input) most_bytes h) refl
+output-within {input} {r} h g = start-prints r ∙ ap machine_run g.is ∙ rw (le-leb (length input.now) most_bytes h) refl
 
 -- a buffer that is too short is as it was
 pub run_short : {input out : List ℕ} {n : ℕ} → n ≡ room (length input) → length out < n → RunGives input out (Err (record { needed = n })) out

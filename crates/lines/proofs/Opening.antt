@@ -2,7 +2,7 @@
 -- Assumes nothing.
 use Prim.Native.Nat.{ℕ, ◌≤◌, ◌<◌}
 use native.Mathlib.Omega.{arith}
-use mathlib.Core.Path.{◌≡◌, refl, ◌∙◌}
+use mathlib.Core.Path.{◌≡◌, refl, ap, ◌∙◌}
 use mathlib.Core.List.{List, [], ◌∷◌}
 use mathlib.Core.Option.{Option-elim}
 use borrow.Author.Tests.{lt-ltb, le-ltb, le-leb, lt-leb}
@@ -17,7 +17,7 @@ use Rattle.lines.specs.Machine.{most, count_tests, by_count, opening}
 use denote.Ref.{Bor}
 use Rattle.std.specs.Prelude as std
 use Rattle.std.specs.Prelude.{Some, None, Ok, Err}
-use Rattle.lines.specs.Gives.{rest_of, Takes, AdmitGives, StartGives}
+use Rattle.lines.specs.Gives.{bytes_of, rest_of, Takes, AdmitGives, StartGives}
 use Rattle.lines.specs.declared.reader.Reader.{Reader}
 
 -- ---- its count
@@ -54,29 +54,37 @@ admit-parts {n} above few = record { is = λ ls. rw (count-accepted n above few)
 
 -- ---- its line
 
--- a new reader stands at the first line
-pub at_first : (reader : Reader) {input : Bor (List ℕ)} → reader.rest ≡ input → rest_of reader ≡ lines input.now
-at_first reader e = rw e refl
+-- a reader at the input's start stands at the first line
+pub at_first : (reader : Reader) {input : Bor (List ℕ)} → (reader.input ≡ input) × (reader.at ≡ 0) → bytes_of reader ≡ input.now
+at_first reader e = rw (e.0, e.1) refl
 
 -- what a machine line was taken as
 abbrev Counted : Reader → Reader → std.Option ℕ → Type 0
 Counted before after r = Takes (λ n. n) (next_as machine_count (rest_of before)) before after r
 
-module _ (input : List ℕ) (before after : Reader) (first : rest_of before ≡ lines input) where
-  -- there is none
+module _ {input : Bor (List ℕ)} (before after : Reader) (made : (before.input ≡ input) × (before.at ≡ 0)) where
+  -- its lines are the input's
+  first : rest_of before ≡ lines input.now
+  first = ap lines (at_first before made)
+
+  -- there is no machine line
   pub start_none : Counted before after None → StartGives input (Err (MalformedLine 1))
   unfolding opening Option-elim
-  start_none g = record { is = rw (← first, ← g.is) refl; within = tt }
+  start_none g = record { is = rw (← first, ← g.is) refl; within = tt; same = tt }
 
   module _ {n : ℕ} (g : Counted before after (Some n)) where
     -- its count is refused
     pub start-refused : {why : Refusal} → AdmitGives n (Err why) → StartGives input (Err why)
     unfolding opening Option-elim
-    start-refused a = record { is = a.is (rest_of after) ∙ rw (← first, ← g.is) refl; within = tt }
+    start-refused a = record { is = a.is (rest_of after) ∙ rw (← first, ← g.is) refl; within = tt; same = tt }
 
     -- or it is that of a machine
-    pub start-machine : {m : ℕ} → before.rest.now ≡ input → AdmitGives n (Ok m) → StartGives input (Ok (m, after))
+    pub start-machine : {m : ℕ} → AdmitGives n (Ok m) → StartGives input (Ok (m, after))
     unfolding opening Option-elim
-    start-machine e a =
+    start-machine a =
         let (above, few) = a.within in
-        record { is = a.is (rest_of after) ∙ rw (← first, ← g.is) refl; within = (above, few, rw e at g.left) }
+        record {
+          is = a.is (rest_of after) ∙ rw (← first, ← g.is) refl;
+          within = (above, few, rw (at_first before made) at g.left);
+          same = g.same ∙ made.0;
+        }

@@ -16,10 +16,10 @@ module _ {A B : Type 0} (of : B → A) (take : Form → Option A) {before after 
   pub takes : {l : Line} → NextGives before after (Some l) → (r : std.Option B) → found_as of r ≡ take (form_of l)
       → Takes of (next_as take (rest_of before)) before after r
   unfolding next_as bind
-  takes g None t = record { is = rw (← g.is, ← t) refl; further = tt; left = g.left }
-  takes g (Some b) t = record { is = rw (← g.is, ← t) refl; further = g.further; left = g.left }
+  takes g None t = record { is = rw (← g.takes.is, ← t) refl; further = tt; left = g.takes.left; same = g.takes.same }
+  takes g (Some b) t = record { is = rw (← g.takes.is, ← t) refl; further = g.takes.further; left = g.takes.left; same = g.takes.same }
 
   -- none was read
   pub takes_none : NextGives before after None → Takes of (next_as take (rest_of before)) before after None
   unfolding next_as bind
-  takes_none g = record { is = rw (← g.is) refl; further = tt; left = g.left }
+  takes_none g = record { is = rw (← g.takes.is) refl; further = tt; left = g.takes.left; same = g.takes.same }

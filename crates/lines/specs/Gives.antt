@@ -1,12 +1,12 @@
 -- What the functions of this crate give, as the definitions have it.
 -- Assumes nothing.
-use Rattle.std.specs.Prelude.{ℕ, ◌≤◌, ◌<◌, ◌≡◌, List, ◌++◌, length, take, Option, Result, Ok, Err, IfSome, IfOk}
+use Rattle.std.specs.Prelude.{ℕ, ◌≤◌, ◌<◌, ◌≡◌, List, [], ◌++◌, length, take, drop, Option, Result, Ok, Err, IfSome, IfOk}
 use Rattle.std.specs.Borrow.{Bor}
 use Rattle.std.proofs.Math.Option as maybe
 use Rattle.tree.specs.declared.Refusal.{Refusal}
 use Rattle.tree.specs.Verdict.{number_of, place_of}
 use Rattle.tree.specs.Tests.{verdict}
-use Rattle.text.specs.Lines.{Lines, lines}
+use Rattle.text.specs.Lines.{Lines, tail, line, lines}
 use Rattle.text.specs.Found.{found_as}
 use Rattle.lines.specs.Forms.{Query, pair, many, Form, machine, part, asked}
 use Rattle.lines.specs.Read.{next}
@@ -47,26 +47,38 @@ reading_of r = found_as form_of r
 
 -- ---- the next line
 
--- the lines that a reader has before it, and their bytes
-abbrev pub rest_of : Reader → Lines
-rest_of reader = lines reader.rest.now
+-- the bytes that a reader has before it
+abbrev pub bytes_of : Reader → List ℕ
+bytes_of reader = drop reader.at reader.input.now
 
+-- the lines that they are
+abbrev pub rest_of : Reader → Lines
+rest_of reader = lines (bytes_of reader)
+
+-- how many they are
 abbrev pub left_by : Reader → ℕ
-left_by reader = length reader.rest.now
+left_by reader = length (bytes_of reader)
 
 -- some bytes are what is left of others
 abbrev pub LeftOf : List ℕ → List ℕ → Type 0
 LeftOf all rest = (taken : List ℕ) × (all ≡ taken ++ rest)
 
--- a reader took what it gives, and stands behind it, if anything was there
+-- a reader took what it gives, and stands behind it in the same input, if anything was there
 pub record Takes {A B : Type 0} (of : B → A) (there : maybe.Option (A × Lines)) (before after : Reader) (r : Option B) : Type 0 where
   pub is : found_as (λ b. (of b, rest_of after)) r ≡ there
   pub further : IfSome r (λ b. left_by after < left_by before)
-  pub left : LeftOf before.rest.now after.rest.now
+  pub left : LeftOf (bytes_of before) (bytes_of after)
+  pub same : after.input ≡ before.input
 
--- the next line
-abbrev pub NextGives : Reader → Reader → Option Line → Type 0
-NextGives before after r = Takes form_of (next (rest_of before)) before after r
+-- the lines behind the first: none where no LF ends it
+abbrev pub behind_first : Lines → Lines
+behind_first (tail b) = tail []
+behind_first (line b rest) = rest
+
+-- the next line; the reader stands behind it, whatever it says
+pub record NextGives (before after : Reader) (r : Option Line) : Type 0 where
+  pub takes : Takes form_of (next (rest_of before)) before after r
+  pub behind : rest_of after ≡ behind_first (rest_of before)
 
 -- ---- the machine line
 
@@ -85,7 +97,8 @@ pub record AdmitGives (n : ℕ) (r : Result ℕ Refusal) : Type 0 where
   pub is : (ls : Lines) → opening_before ls r ≡ by_count (verdict (count_tests n)) n ls
   pub within : IfOk r (λ m. (0 < m) × (m ≤ most))
 
--- the machine line of an input
-pub record StartGives (input : List ℕ) (r : Result (ℕ × Reader) Refusal) : Type 0 where
-  pub is : opening_of r ≡ opening (lines input)
-  pub within : IfOk r (λ start. (0 < start.0) × (start.0 ≤ most) × LeftOf input start.1.rest.now)
+-- the machine line of an input: the reader that is handed on reads that input
+pub record StartGives (input : Bor (List ℕ)) (r : Result (ℕ × Reader) Refusal) : Type 0 where
+  pub is : opening_of r ≡ opening (lines input.now)
+  pub within : IfOk r (λ start. (0 < start.0) × (start.0 ≤ most) × LeftOf input.now (bytes_of start.1))
+  pub same : IfOk r (λ start. start.1.input ≡ input)

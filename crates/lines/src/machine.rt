@@ -11,9 +11,9 @@ const MOST: u16 = 512;
 
 // Reads the machine line: how many parts, and the reader of the lines after it; or the refusal that ends the run.
 pub fn machine_line(input: &[u8]) -> Result<(usize, Reader<'_>), Refusal>
-    ensures { StartGives input.now result }
+    ensures { StartGives input.entry result }
 {
-    let mut reader = Reader::new(input);
+    let mut reader = Reader::new(input, 0);
     let n = count(&mut reader).ok_or(Refusal::MalformedLine(1))?;
     let parts = admit(n)?;
     Ok((parts, reader))

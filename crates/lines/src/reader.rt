@@ -1,35 +1,48 @@
-// The reader "holds the input and its position and takes the lines one by one": it holds the input from its position on, which is that of a line's first byte.
+// The reader "holds the input and its position and takes the lines one by one". The position is that of a line's first byte, or the input's end.
+
+ghost use Rattle.std.specs.Prelude.{◌≤◌, length};
 
 use crate::form;
 use crate::form::Line;
 
-// What is left of the input.
-#[derive(Drop)]
+// The input, and the position in it.
+#[derive(Clone, Copy)]
 pub struct Reader<'a> {
-    rest: &'a [u8],
+    input: &'a [u8],
+    at: usize,
+    ghost within: { at ≤ length input.now },
 }
 
 impl<'a> Reader<'a> {
-    ghost use Rattle.std.specs.Prelude.{◌≡◌, ◌<◌};
+    ghost use Rattle.std.specs.Prelude.{◌≡◌, ◌<◌, ◌≤◌, length};
     ghost use Rattle.std.specs.Bool.{MatchBool};
     ghost use Rattle.lines.specs.Gives.{left_by};
 
-    // A reader of the input, at its first line.
-    pub(crate) fn new(input: &'a [u8]) -> Reader<'a>
-        ensures { result.rest ≡ input.entry }
+    // A reader of the input, at a position.
+    pub fn new(input: &'a [u8], at: usize) -> Reader<'a>
+        requires { at ≤ length input.now }
+        ensures { (result.input ≡ input.entry) × (result.at ≡ at) }
     {
-        Reader { rest: input }
+        Reader { input, at }
+    }
+
+    // Where the reader stands.
+    pub fn position(&self) -> usize
+        ensures { result ≡ self.now.at }
+    {
+        self.at
     }
 
     // Whether bytes are left.
     pub fn has_more(&self) -> bool
         ensures { MatchBool result (0 < left_by self.now) (left_by self.now ≡ 0) }
     {
-        !self.rest.is_empty()
+        self.at < self.input.len()
     }
 }
 
-// Takes the line at the reader's position, and moves behind it; nothing where there is none or it is illegible.
+// Takes the line at the reader's position, and moves behind it whatever it says: behind its LF, or to the input's end where no LF ends it. It gives nothing for
+// an illegible line, behind which others may stand, and nothing where no line is left.
 impl Iterator for Reader<'_> {
     type Item = Line;
 
@@ -41,9 +54,11 @@ impl Iterator for Reader<'_> {
     ghost remaining = { λ reader. at_most (left_by reader) };
 
     fn next(&mut self) -> Option<Line> {
-        let (first, rest) = text::first_line(self.rest)?;
-        let line = form::read(first)?;
-        self.rest = rest;
-        Some(line)
+        let Some((first, rest)) = text::first_line(&self.input[self.at..]) else {
+            self.at = self.input.len();
+            return None;
+        };
+        self.at = self.input.len() - rest.len();
+        form::read(first)
     }
 }
