@@ -67,13 +67,13 @@ fn lend(
 // Puts each count.
 fn put(low: &[u16], high: &[u16], counts: &mut [u32]) {
     for (i, count) in counts.iter_mut().enumerate() {
-        *count = half(high, i) << 16 | half(low, i);
+        *count = u32::from(half(high, i)) << 16 | u32::from(half(low, i));
     }
 }
 
 // Half of a count, 0 where none is given.
-fn half(halves: &[u16], i: usize) -> u32 {
-    halves.get(i).map_or(0, |half| u32::from(*half))
+fn half(halves: &[u16], i: usize) -> u16 {
+    halves.get(i).copied().unwrap_or(0)
 }
 
 // Asks for the totals of as many parts as a sheet may have, with the largest counts.
