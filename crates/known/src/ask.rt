@@ -5,10 +5,11 @@
 // call all it may write holds sevens.
 
 use crate::lend::Buffers;
+use crate::out::Out;
 use crate::print::{Answered, places, some};
 use crate::{BEFORE, damage, lend, subtree, trail};
 use std::io;
-use std::io::{Print, Stdout};
+use std::io::Print;
 use tree::{Lent, Refusal};
 
 // What a line asks for.
@@ -50,7 +51,7 @@ impl Call {
 
 // Parts the numbers of a line, builds the sheet's tables, changes the cells at some places, and asks.
 pub fn run(
-    out: Stdout,
+    out: Out,
     kind: Kind,
     numbers: &[u16],
     buffers: &mut Buffers,
@@ -84,7 +85,7 @@ pub fn run(
 }
 
 // Prints how many cells of answer and trail are lent, where the tables are damaged, and what is asked.
-fn put_question(out: Stdout, asked: Question, changed: &[u16]) -> io::Result<()> {
+fn put_question(out: Out, asked: Question, changed: &[u16]) -> io::Result<()> {
     print!(out; " {} {}", asked.cells, asked.rows)?;
     if !changed.is_empty() {
         print!(out; ", damaged at {}", places(changed))?;
@@ -94,7 +95,7 @@ fn put_question(out: Stdout, asked: Question, changed: &[u16]) -> io::Result<()>
 
 // Asks what the kind of a line says.
 fn ask_kind(
-    out: Stdout,
+    out: Out,
     kind: Kind,
     asked: Question,
     tables: Lent,
@@ -109,7 +110,7 @@ fn ask_kind(
 }
 
 // Asks for pairs by each of the three routes.
-pub fn pairs(out: Stdout, asked: Question, tables: Lent, work: &mut [u16]) -> io::Result<()> {
+pub fn pairs(out: Out, asked: Question, tables: Lent, work: &mut [u16]) -> io::Result<()> {
     for route in [Call::Labels, Call::Tour, Call::Lifts] {
         ask(out, route, asked, tables, work)?;
     }
@@ -118,7 +119,7 @@ pub fn pairs(out: Stdout, asked: Question, tables: Lent, work: &mut [u16]) -> io
 
 // Asks one call, with an answer of up to 768 cells, those of 256 pairs, and prints a line.
 pub fn ask(
-    out: Stdout,
+    out: Out,
     call: Call,
     asked: Question,
     tables: Lent,

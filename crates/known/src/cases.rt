@@ -2,16 +2,17 @@
 // the cells of work that are lent before the entries; lend.rt has the kinds 't', 'd', 'g', 'o' and 'c', ask.rt the kinds 'p', 'r', 'm' and 's',
 // totals.rt the kind 'a'; any other line, as one that begins with '#', is a comment. Whatever is no digit only parts the numbers.
 
+use crate::out::Out;
 use crate::{BEFORE, ask, check, lend, print, totals};
 use arrayvec::ArrayVec;
 use std::io;
-use std::io::{Print, Stdout};
+use std::io::Print;
 
 // The numbers of a line, as many as there is room for.
 type Numbers = ArrayVec<u16, 640>;
 
 // Runs each line of a text.
-pub fn all(out: Stdout, text: &[u8]) -> io::Result<()> {
+pub fn all(out: Out, text: &[u8]) -> io::Result<()> {
     for line in text.split(|byte| *byte == b'\n') {
         run_line(out, line)?;
     }
@@ -19,7 +20,7 @@ pub fn all(out: Stdout, text: &[u8]) -> io::Result<()> {
 }
 
 // Runs a line whose kind its first letter says, unless it is a comment.
-fn run_line(out: Stdout, line: &[u8]) -> io::Result<()> {
+fn run_line(out: Out, line: &[u8]) -> io::Result<()> {
     let found = numbers(line);
     let numbers = found.as_slice();
     match line {
@@ -34,7 +35,7 @@ fn run_line(out: Stdout, line: &[u8]) -> io::Result<()> {
 }
 
 // Checks a sheet that stands behind the number of cells of work that it is lent.
-fn run_sheet(out: Stdout, numbers: &[u16]) -> io::Result<()> {
+fn run_sheet(out: Out, numbers: &[u16]) -> io::Result<()> {
     let mut work = [BEFORE; 128];
     let [cells, parents @ ..] = numbers else {
         return Ok(());

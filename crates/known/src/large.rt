@@ -4,9 +4,10 @@ ghost use Rattle.std.specs.Prelude.{◌≡◌, length};
 
 use crate::ask::{Call, Question};
 use crate::lend::Buffers;
+use crate::out::Out;
 use crate::{BEFORE, ask, check, damage, lend, shape, subtree, totals, trail};
 use std::io;
-use std::io::{Print, Stdout};
+use std::io::Print;
 use tree::Lent;
 
 // The most parts of a sheet, and the cells of the buffers of so many.
@@ -21,7 +22,7 @@ const TOUR: usize = 540656;
 const LIFT: usize = 15 * PARTS;
 
 // Stars and chains, with the root at either end.
-pub fn accepted(out: Stdout) -> io::Result<()> {
+pub fn accepted(out: Out) -> io::Result<()> {
     let mut s = [0; PARTS];
     let mut w = [BEFORE; WORK];
     print!(out; "star of 16384, root 0")?;
@@ -39,7 +40,7 @@ pub fn accepted(out: Stdout) -> io::Result<()> {
 }
 
 // Tests 2 and 3.
-pub fn sizes(out: Stdout) -> io::Result<()> {
+pub fn sizes(out: Out) -> io::Result<()> {
     let mut w = [BEFORE; WORK];
     print!(out; "16385 entries")?;
     check(out, &[0; PARTS + 1], &mut w)?;
@@ -48,7 +49,7 @@ pub fn sizes(out: Stdout) -> io::Result<()> {
 }
 
 // Test 2, before 3, of the calls that are lent tables, and of those that answer.
-pub fn size_of_tables(out: Stdout) -> io::Result<()> {
+pub fn size_of_tables(out: Out) -> io::Result<()> {
     let s = [0; PARTS + 1];
     let mut w = [BEFORE; 4];
     let mut buffers = Buffers {
@@ -65,7 +66,7 @@ pub fn size_of_tables(out: Stdout) -> io::Result<()> {
 }
 
 // Tests 4 to 6, at the last part.
-pub fn refused(out: Stdout) -> io::Result<()> {
+pub fn refused(out: Out) -> io::Result<()> {
     let mut s = [0; PARTS];
     let mut w = [BEFORE; WORK];
     s[16383] = 16384;
@@ -81,7 +82,7 @@ pub fn refused(out: Stdout) -> io::Result<()> {
 }
 
 // Test 7: a loop of all parts but the root, one at the end of the longest climb, and one of the last two parts.
-pub fn cycles(out: Stdout) -> io::Result<()> {
+pub fn cycles(out: Out) -> io::Result<()> {
     let mut s = [0; PARTS];
     let mut w = [BEFORE; WORK];
     shape::chain_up(&mut s);
@@ -102,7 +103,7 @@ pub fn cycles(out: Stdout) -> io::Result<()> {
 }
 
 // The tables of a star, a chain and a tree of no order, and questions to them.
-pub fn tables(out: Stdout) -> io::Result<()> {
+pub fn tables(out: Out) -> io::Result<()> {
     let mut s = [0; PARTS];
     print!(out; "star of 16384, root 0")?;
     lend_tables(out, &s)?;
@@ -122,7 +123,7 @@ fn sevens<const N: usize>() -> [u16; N]
 }
 
 // Lends the buffers of the tables of 16,384 parts.
-fn lend_tables(out: Stdout, parents: &[u16]) -> io::Result<()> {
+fn lend_tables(out: Out, parents: &[u16]) -> io::Result<()> {
     let mut tour = sevens::<TOUR>();
     let mut buffers = Buffers {
         label: &mut [BEFORE; LABEL],
@@ -136,7 +137,7 @@ fn lend_tables(out: Stdout, parents: &[u16]) -> io::Result<()> {
 // Builds the tables of a sheet, compares them with it, asks, and compares them damaged: the last cell changed, then the last of the lift table too,
 // and then the first cell too.
 fn run_tables(
-    out: Stdout,
+    out: Out,
     parents: &[u16],
     buffers: &mut Buffers,
     work: &mut [u16],
@@ -159,7 +160,7 @@ fn run_tables(
 }
 
 // Asks for nine pairs by each route, with three cells of answer for each, for two trails, for a list, and for subtrees.
-fn answers(out: Stdout, tables: Lent, work: &mut [u16]) -> io::Result<()> {
+fn answers(out: Out, tables: Lent, work: &mut [u16]) -> io::Result<()> {
     let pairs = [
         0, 16383, 16383, 16383, 16382, 16383, 12345, 6789, 4095, 4096, 8191, 8192, 7586, 11500,
         15297, 9876, 12290, 11371,
@@ -178,13 +179,13 @@ fn question(cells: usize, rows: usize, parts: &[u16]) -> Question<'_> {
 }
 
 // Compares tables with a sheet, and prints a line.
-fn compare(out: Stdout, name: &str, tables: Lent, work: &mut [u16]) -> io::Result<()> {
+fn compare(out: Out, name: &str, tables: Lent, work: &mut [u16]) -> io::Result<()> {
     print!(out; "  {name}")?;
     lend::compare(out, tables, work)
 }
 
 // The totals of a star, of a chain whose parts name later ones, and of a tree of no order whose parts name earlier and later ones.
-pub fn counted(out: Stdout) -> io::Result<()> {
+pub fn counted(out: Out) -> io::Result<()> {
     let mut s = [0; PARTS];
     print!(out; "star of 16384, root 0")?;
     totals::ask_large(out, &s)?;
@@ -198,7 +199,7 @@ pub fn counted(out: Stdout) -> io::Result<()> {
 }
 
 // No totals: test 7, and test 2, before 3.
-pub fn not_counted(out: Stdout) -> io::Result<()> {
+pub fn not_counted(out: Out) -> io::Result<()> {
     let mut s = [0; PARTS];
     shape::chain_up(&mut s);
     s[0] = 0;

@@ -3,10 +3,11 @@
 // the cells at some places and compares; 'g' builds them, puts given numbers into the order table and compares; 'o' builds the tables of one
 // sheet and compares them with another; 'c' compares the sevens. Lines of ask.rt begin with the same five numbers.
 
+use crate::out::Out;
 use crate::print::{Numbers, Verdict, Work, entries, holds, places, some};
 use crate::{BEFORE, ask, damage};
 use std::io;
-use std::io::{Print, Stdout};
+use std::io::Print;
 use tree::{Lent, Refusal};
 
 // What is done with the buffers that a line lends.
@@ -69,7 +70,7 @@ impl Buffers<'_> {
 }
 
 // Lends as many cells of each buffer as a line says, and runs it.
-pub fn run(out: Stdout, kind: Kind, numbers: &[u16]) -> io::Result<()> {
+pub fn run(out: Out, kind: Kind, numbers: &[u16]) -> io::Result<()> {
     let mut label = [BEFORE; 192];
     let mut tour = [BEFORE; 480];
     let mut lift = [BEFORE; 192];
@@ -97,7 +98,7 @@ pub fn run(out: Stdout, kind: Kind, numbers: &[u16]) -> io::Result<()> {
 
 // Runs a line on the cells that are lent.
 fn run_kind(
-    out: Stdout,
+    out: Out,
     kind: Kind,
     numbers: &[u16],
     buffers: &mut Buffers,
@@ -114,7 +115,7 @@ fn run_kind(
 }
 
 // Prints a sheet, and how many cells of the tables and of work are lent with it.
-pub fn lent(out: Stdout, tables: Lent, work: &[u16]) -> io::Result<()> {
+pub fn lent(out: Out, tables: Lent, work: &[u16]) -> io::Result<()> {
     let Lent {
         parents,
         label,
@@ -133,7 +134,7 @@ pub fn lent(out: Stdout, tables: Lent, work: &[u16]) -> io::Result<()> {
 }
 
 // Builds the tables of a sheet, and prints those of an accepted one.
-fn build(out: Stdout, parents: &[u16], buffers: &mut Buffers, work: &mut [u16]) -> io::Result<()> {
+fn build(out: Out, parents: &[u16], buffers: &mut Buffers, work: &mut [u16]) -> io::Result<()> {
     lent(out, buffers.tables(parents), work)?;
     if built(out, parents, buffers, work)?.is_err() {
         return Ok(());
@@ -146,7 +147,7 @@ fn build(out: Stdout, parents: &[u16], buffers: &mut Buffers, work: &mut [u16]) 
 
 // Builds the tables of a sheet, and prints the rest of the line.
 pub fn built(
-    out: Stdout,
+    out: Out,
     parents: &[u16],
     buffers: &mut Buffers,
     work: &mut [u16],
@@ -166,12 +167,7 @@ pub fn built(
 }
 
 // Compares the tables of a sheet with it, the cells at some places changed; the places stand behind their count, before the entries.
-fn damaged(
-    out: Stdout,
-    numbers: &[u16],
-    buffers: &mut Buffers,
-    work: &mut [u16],
-) -> io::Result<()> {
+fn damaged(out: Out, numbers: &[u16], buffers: &mut Buffers, work: &mut [u16]) -> io::Result<()> {
     let [count, rest @ ..] = numbers else {
         return println!(out; "too few numbers");
     };
@@ -184,7 +180,7 @@ fn damaged(
 }
 
 // Compares the tables of a sheet with it, the order table replaced by the numbers before the entries, one for each of its cells.
-fn given(out: Stdout, numbers: &[u16], buffers: &mut Buffers, work: &mut [u16]) -> io::Result<()> {
+fn given(out: Out, numbers: &[u16], buffers: &mut Buffers, work: &mut [u16]) -> io::Result<()> {
     let Some((cells, parents)) = numbers.split_at_checked(buffers.order.len()) else {
         return println!(out; "too few numbers");
     };
@@ -205,7 +201,7 @@ fn given(out: Stdout, numbers: &[u16], buffers: &mut Buffers, work: &mut [u16]) 
 }
 
 // Compares the tables of the sheet in the first half of a line with the sheet in the second.
-fn other(out: Stdout, numbers: &[u16], buffers: &mut Buffers, work: &mut [u16]) -> io::Result<()> {
+fn other(out: Out, numbers: &[u16], buffers: &mut Buffers, work: &mut [u16]) -> io::Result<()> {
     let (first, second) = numbers.split_at(numbers.len() / 2);
     print!(out; "{} / ", entries(first))?;
     lent(out, buffers.tables(second), work)?;
@@ -214,7 +210,7 @@ fn other(out: Stdout, numbers: &[u16], buffers: &mut Buffers, work: &mut [u16]) 
 
 // Builds the tables of one sheet, changes the cells at some places, and compares them with another sheet.
 fn build_and_compare(
-    out: Stdout,
+    out: Out,
     first: &[u16],
     changed: &[u16],
     second: &[u16],
@@ -234,14 +230,14 @@ fn build_and_compare(
 }
 
 // Compares tables that hold sevens only.
-fn sevens(out: Stdout, tables: Lent, work: &mut [u16]) -> io::Result<()> {
+fn sevens(out: Out, tables: Lent, work: &mut [u16]) -> io::Result<()> {
     lent(out, tables, work)?;
     print!(out; ", sevens")?;
     compare(out, tables, work)
 }
 
 // Compares tables with a sheet, and prints the rest of the line.
-pub fn compare(out: Stdout, tables: Lent, work: &mut [u16]) -> io::Result<()> {
+pub fn compare(out: Out, tables: Lent, work: &mut [u16]) -> io::Result<()> {
     work.fill(BEFORE);
     let r = tables::compare(tables, work);
     println!(out; "{}{}", Verdict(r), Work(work))

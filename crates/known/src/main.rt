@@ -9,6 +9,7 @@ mod cases;
 mod damage;
 mod large;
 mod lend;
+mod out;
 mod print;
 mod shape;
 mod subtree;
@@ -16,10 +17,10 @@ mod totals;
 mod trail;
 
 use arrayvec::ArrayVec;
+use out::Out;
 use print::{Verdict, Work};
 use std::io;
-use std::io::{Print, Stdin, Stdout};
-use std::process::ExitCode;
+use std::io::{Print, Stdin};
 
 // What each cell that a call may write holds before it.
 const BEFORE: u16 = 7;
@@ -28,14 +29,14 @@ const BEFORE: u16 = 7;
 const INPUT: usize = 65536;
 
 // Checks one sheet and prints the rest of its line.
-fn check(out: Stdout, parents: &[u16], work: &mut [u16]) -> io::Result<()> {
+fn check(out: Out, parents: &[u16], work: &mut [u16]) -> io::Result<()> {
     work.fill(BEFORE);
     let r = tables::check(parents, work);
     println!(out; "{}{}", Verdict(r), Work(work))
 }
 
 // Runs the lines of standard input, and then the large sheets.
-fn run(mut stdin: Stdin, out: Stdout) -> io::Result<()> {
+fn run(mut stdin: Stdin, out: Out) -> io::Result<()> {
     let mut text: ArrayVec<u8, INPUT> = ArrayVec::new();
     let _ = io::copy(&mut stdin, &mut text);
     cases::all(out, text.as_slice())?;
@@ -49,9 +50,6 @@ fn run(mut stdin: Stdin, out: Stdout) -> io::Result<()> {
     large::not_counted(out)
 }
 
-fn main(rt: HostRuntime) -> ExitCode {
-    match run(rt.stdin(), rt.stdout()) {
-        Ok(()) => ExitCode::SUCCESS,
-        Err(_) => ExitCode::FAILURE,
-    }
+fn main(rt: HostRuntime) {
+    let _ = run(rt.stdin(), Out(rt.stdout()));
 }

@@ -5,9 +5,10 @@
 
 use crate::BEFORE;
 use crate::large::{PARTS, WORK};
+use crate::out::Out;
 use crate::print::{Numbers, Verdict, Work, entries, kept};
 use std::fmt::{Display, Formatter, Write};
-use std::io::{Print, Stdout};
+use std::io::Print;
 use std::{fmt, io};
 
 // What each cell of totals holds before a call.
@@ -17,7 +18,7 @@ const NO_TOTAL: u64 = 7777777777777777777;
 const MIXED: u64 = 4294967291;
 
 // Parts the numbers of a line.
-pub fn run(out: Stdout, numbers: &[u16]) -> io::Result<()> {
+pub fn run(out: Out, numbers: &[u16]) -> io::Result<()> {
     let [work, counts, totals, halves, rest @ ..] = numbers else {
         return println!(out; "too few numbers");
     };
@@ -39,7 +40,7 @@ pub fn run(out: Stdout, numbers: &[u16]) -> io::Result<()> {
 
 // Lends as many cells of each buffer as the line says, puts the counts, asks for the totals, and prints a line.
 fn lend(
-    out: Stdout,
+    out: Out,
     w: usize,
     t: usize,
     low: &[u16],
@@ -66,17 +67,17 @@ fn lend(
 // Puts each count.
 fn put(low: &[u16], high: &[u16], counts: &mut [u32]) {
     for (i, count) in counts.iter_mut().enumerate() {
-        *count = half(high, i) << 16 | half(low, i);
+        *count = u32::from(half(high, i)) << 16 | u32::from(half(low, i));
     }
 }
 
 // Half of a count, 0 where none is given.
-fn half(halves: &[u16], i: usize) -> u32 {
-    halves.get(i).map_or(0, |half| u32::from(*half))
+fn half(halves: &[u16], i: usize) -> u16 {
+    halves.get(i).copied().unwrap_or(0)
 }
 
 // Asks for the totals of as many parts as a sheet may have, with the largest counts.
-pub fn ask_large(out: Stdout, parents: &[u16]) -> io::Result<()> {
+pub fn ask_large(out: Out, parents: &[u16]) -> io::Result<()> {
     let mut work = [BEFORE; WORK];
     let counts = [u32::MAX; PARTS];
     let mut totals = [NO_TOTAL; PARTS];
@@ -86,7 +87,7 @@ pub fn ask_large(out: Stdout, parents: &[u16]) -> io::Result<()> {
 
 // Asks for the totals, and prints the rest of a line.
 fn answer(
-    out: Stdout,
+    out: Out,
     parents: &[u16],
     work: &mut [u16],
     counts: &[u32],

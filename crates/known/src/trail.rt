@@ -2,13 +2,14 @@
 
 use crate::BEFORE;
 use crate::ask::Question;
+use crate::out::Out;
 use crate::print::{Answered, Rows, kept};
 use std::io;
-use std::io::{Print, Stdout};
+use std::io::Print;
 use tree::{Lent, Refusal};
 
 // Asks for a trail, with an answer and a trail of the lengths that the question says, and prints a line.
-pub fn ask(out: Stdout, asked: Question, tables: Lent, work: &mut [u16]) -> io::Result<()> {
+pub fn ask(out: Out, asked: Question, tables: Lent, work: &mut [u16]) -> io::Result<()> {
     let mut answer = [BEFORE; 3];
     let mut trail = [BEFORE; 65];
     if answer.len() < asked.cells || trail.len() < asked.rows {
@@ -26,7 +27,7 @@ pub fn ask(out: Stdout, asked: Question, tables: Lent, work: &mut [u16]) -> io::
 
 // Asks for a trail and prints a line.
 fn answer_in(
-    out: Stdout,
+    out: Out,
     pair: &[u16],
     tables: Lent,
     work: &mut [u16],
@@ -40,7 +41,7 @@ fn answer_in(
 
 // What came of a trail.
 fn traced(
-    out: Stdout,
+    out: Out,
     r: Result<usize, Refusal>,
     work: &[u16],
     answer: &[u16],

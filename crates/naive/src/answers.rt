@@ -46,9 +46,9 @@ pub fn trail(
     let y = usize::from(*y);
     let own = Sides::traced(sheet, x, y);
     let met = sheet.carrier(x, y);
-    log.agree(Some(Call::Trail), Point::Lifts, own.lifts(), lifts);
+    log.agree(Some(Call::Trail), Point::Lifts, own.lifts, lifts);
     log.agree_at(Call::Trail, Buffer::Answer, 0, cell(own.x), *came);
-    log.same(Call::Trail, Buffer::Trail, own.into_rows().as_slice(), rows);
+    log.same(Call::Trail, Buffer::Trail, &own.rows, rows);
     log.agree_at(Call::Trail, Buffer::Answer, 0, cell(met), *came);
     let expected = trail::lifts(sheet.level(x), sheet.level(y), sheet.level(met));
     log.agree(Some(Call::Trail), Point::Formula, expected, lifts);

@@ -32,7 +32,6 @@ mod walk;
 
 use log::Log;
 use std::io::Print;
-use std::process::ExitCode;
 
 // The cells of a sheet of one part more than a sheet may have, and of the four tables of the largest sheet, end to end, and one more.
 const SHEET: usize = 16385;
@@ -47,13 +46,10 @@ fn zeros<const N: usize>() -> [u16; N]
 }
 
 // Lends the sheet, its own tables and the log to all that is held, and prints the log: the summary, or the disagreement.
-fn main(rt: HostRuntime) -> ExitCode {
+fn main(rt: HostRuntime) {
     let mut sheet = zeros::<SHEET>();
     let mut own = zeros::<OWN>();
     let mut log = Log::new();
     sheets::all(&mut sheet, &mut own, &mut log);
-    match print!(rt; "{log}") {
-        Ok(()) => ExitCode::SUCCESS,
-        Err(_) => ExitCode::FAILURE,
-    }
+    let _ = print!(rt; "{log}");
 }

@@ -3,25 +3,27 @@
 use crate::climb::Sheet;
 use crate::fit::{log, power};
 use crate::junk::cell;
-use arrayvec::ArrayVec;
 
-// The rows of a trail: for each lift, the side of x and then that of y.
-type Rows = ArrayVec<u16, 64>;
-
-// Where the two sides stand, with the rows of the lifts that led there.
-#[derive(Drop)]
+// Where the two sides stand, and how many lifts led there, with their rows: for each lift, the side of x and then that of y, and 65535 after them.
+#[derive(Clone, Copy)]
 pub struct Sides<'a> {
     sheet: Sheet<'a>,
     pub x: usize,
     y: usize,
-    rows: Rows,
+    pub lifts: usize,
+    pub rows: [u16; 64],
 }
 
 impl<'a> Sides<'a> {
     // The trail of x and y: first the deeper side is raised, then, if they are not one part, both.
     pub fn traced(sheet: Sheet<'a>, x: usize, y: usize) -> Sides<'a> {
-        let rows = Rows::new();
-        let mut sides = Sides { sheet, x, y, rows };
+        let mut sides = Sides {
+            sheet,
+            x,
+            y,
+            lifts: 0,
+            rows: [65535; 64],
+        };
         for k in (0..=log(sheet.n)).rev() {
             sides.raise_deeper(power(k));
         }
@@ -31,26 +33,21 @@ impl<'a> Sides<'a> {
         sides
     }
 
-    // How many lifts were made.
-    pub fn lifts(&self) -> usize {
-        self.rows.len() / 2
-    }
-
-    // The rows, and 65535 after them.
-    pub fn into_rows(self) -> Rows {
-        let Sides { mut rows, .. } = self;
-        for _ in rows.len()..64 {
-            let _ = rows.try_push(65535);
-        }
-        rows
-    }
-
     // One lift more, with its row.
     fn lift(&mut self, x: usize, y: usize) {
+        let at = self.lifts.saturating_mul(2);
+        self.put(at, x);
+        self.put(at.saturating_add(1), y);
         self.x = x;
         self.y = y;
-        let _ = self.rows.try_push(cell(x));
-        let _ = self.rows.try_push(cell(y));
+        self.lifts = self.lifts.saturating_add(1);
+    }
+
+    // Puts a part into the rows, if they have that place.
+    fn put(&mut self, at: usize, part: usize) {
+        if let Some(row) = self.rows.get_mut(at) {
+            *row = cell(part);
+        }
     }
 
     // Raises the deeper side by so many steps, if it stays as deep as the other.

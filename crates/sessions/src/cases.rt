@@ -1,16 +1,17 @@
 // The cases of standard input, a line each; the head of the file `stdin` tells their form. Whatever is neither a case nor a comment is printed as
 // a mistake, so that no case is lost unseen.
 
+use crate::out::Out;
 use crate::show;
 use arrayvec::ArrayVec;
 use std::io;
-use std::io::{Print, Stdout};
+use std::io::Print;
 
 // An input. What is printed of one of fewer than 1,000 bytes fits the buffer that `show::first` has.
 type Input = ArrayVec<u8, 999>;
 
 // Runs each line of a text.
-pub fn all(out: Stdout, text: &[u8]) -> io::Result<()> {
+pub fn all(out: Out, text: &[u8]) -> io::Result<()> {
     for line in text.split(|byte| *byte == b'\n') {
         run_line(out, line)?;
     }
@@ -18,7 +19,7 @@ pub fn all(out: Stdout, text: &[u8]) -> io::Result<()> {
 }
 
 // Runs a line by its first letter, unless it is a comment.
-fn run_line(out: Stdout, line: &[u8]) -> io::Result<()> {
+fn run_line(out: Out, line: &[u8]) -> io::Result<()> {
     let mut input = Input::new();
     match line {
         [] | [b'#', ..] => return Ok(()),
@@ -36,7 +37,7 @@ fn run_line(out: Stdout, line: &[u8]) -> io::Result<()> {
 }
 
 // Prints what is wrong with a line, and the line.
-fn mistake(out: Stdout, what: &str, line: &[u8]) -> io::Result<()> {
+fn mistake(out: Out, what: &str, line: &[u8]) -> io::Result<()> {
     print!(out; "{what}: ")?;
     out.write_all(line)?;
     println!(out)

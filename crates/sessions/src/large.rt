@@ -1,15 +1,16 @@
 // Inputs that are made by loops: sheets of 512 parts, the longest lines, and inputs of 65,536 bytes.
 
+use crate::out::Out;
 use crate::{show, size};
 use arrayvec::ArrayVec;
 use std::io;
-use std::io::{Stdout, Write};
+use std::io::Write;
 
 // A text that is put together.
 type Text = ArrayVec<u8, 131072>;
 
 // Runs them all.
-pub fn all(out: Stdout) -> io::Result<()> {
+pub fn all(out: Out) -> io::Result<()> {
     long_lines(out)?;
     shapes(out)?;
     counts(out)?;
@@ -17,7 +18,7 @@ pub fn all(out: Stdout) -> io::Result<()> {
 }
 
 // The longest line that is legible has 198 bytes. Lines of 200 bytes and of 201 are not.
-fn long_lines(out: Stdout) -> io::Result<()> {
+fn long_lines(out: Out) -> io::Result<()> {
     long_line(out, b"a line of 198 bytes", b")\n(many 0)\n")?;
     long_line(out, b"a line of 200 bytes", b"  )\n(many 0)\n")?;
     long_line(out, b"a line of 201 bytes", b"   )\n(many 0)\n")?;
@@ -29,7 +30,7 @@ fn long_lines(out: Stdout) -> io::Result<()> {
 }
 
 // A list of 32 numbers of five digits, and what stands behind them.
-fn long_line(out: Stdout, name: &[u8], behind: &[u8]) -> io::Result<()> {
+fn long_line(out: Out, name: &[u8], behind: &[u8]) -> io::Result<()> {
     let mut text = Text::new();
     text.write_all(b"(machine 1)\n(part 0 (in 0))\n(many")?;
     repeat(&mut text, b" 65535", 32)?;
@@ -38,7 +39,7 @@ fn long_line(out: Stdout, name: &[u8], behind: &[u8]) -> io::Result<()> {
 }
 
 // 512 parts in a star, a chain and two chains.
-fn shapes(out: Stdout) -> io::Result<()> {
+fn shapes(out: Out) -> io::Result<()> {
     of_sheet(
         out,
         b"512 parts in a star",
@@ -66,7 +67,7 @@ fn shapes(out: Stdout) -> io::Result<()> {
 }
 
 // A line too few, and one too many; 513 parts.
-fn counts(out: Stdout) -> io::Result<()> {
+fn counts(out: Out) -> io::Result<()> {
     of_sheet(out, b"512 parts, and 511 lines", 512, 511, 1, b"")?;
     of_sheet(out, b"512 parts, and 513 lines", 512, 513, 1, b"")?;
     of_sheet(out, b"513 parts in a chain", 513, 513, 1, b"")
@@ -74,7 +75,7 @@ fn counts(out: Stdout) -> io::Result<()> {
 
 // A sheet of n parts of which so many have a line, each bolted into the part `step` before it, or the first, and questions behind it.
 fn of_sheet(
-    out: Stdout,
+    out: Out,
     name: &[u8],
     n: usize,
     lines: usize,
@@ -112,7 +113,7 @@ fn repeat(text: &mut Text, word: &[u8], times: usize) -> io::Result<()> {
 }
 
 // Inputs of 65,536 bytes, one less and one more; the most questions; and short pairs whose answers are long.
-fn limits(out: Stdout) -> io::Result<()> {
+fn limits(out: Out) -> io::Result<()> {
     lists(out, b"an input of 65,536 bytes", b"(many 3)\n")?;
     lists(out, b"an input of 65,535 bytes", b"(many 3)")?;
     lists(out, b"an input of 65,537 bytes", b"(many 3)\n\n")?;
@@ -121,7 +122,7 @@ fn limits(out: Stdout) -> io::Result<()> {
 }
 
 // A report of more than four bytes for each byte of its input: the root is part 100, and the two parts that are asked for are bolted into two others.
-fn longest(out: Stdout) -> io::Result<()> {
+fn longest(out: Out) -> io::Result<()> {
     let mut text = Text::new();
     put_sheet(&mut text, 103, 103, |v| match v {
         0 => 101,
@@ -137,18 +138,12 @@ fn longest(out: Stdout) -> io::Result<()> {
 }
 
 // 7,267 lists, and one more.
-fn lists(out: Stdout, name: &[u8], last: &[u8]) -> io::Result<()> {
+fn lists(out: Out, name: &[u8], last: &[u8]) -> io::Result<()> {
     filled(out, name, b"(many 3)\n", 7267, last)
 }
 
 // The known machine, a question so many times, and what stands behind it.
-fn filled(
-    out: Stdout,
-    name: &[u8],
-    question: &[u8],
-    times: usize,
-    behind: &[u8],
-) -> io::Result<()> {
+fn filled(out: Out, name: &[u8], question: &[u8], times: usize, behind: &[u8]) -> io::Result<()> {
     let mut text = Text::new();
     show::put_known(&mut text)?;
     repeat(&mut text, question, times)?;

@@ -6,19 +6,20 @@
 
 mod cases;
 mod large;
+mod out;
 mod show;
 mod size;
 
 use arrayvec::ArrayVec;
+use out::Out;
 use std::io;
-use std::io::{Stdin, Stdout};
-use std::process::ExitCode;
+use std::io::Stdin;
 
 // The most bytes of standard input that are read.
 const INPUT: usize = 65536;
 
 // Runs the cases of standard input, and then the inputs that are made here. What is read fills its buffer where more may follow.
-fn run(mut stdin: Stdin, out: Stdout) -> io::Result<()> {
+fn run(mut stdin: Stdin, out: Out) -> io::Result<()> {
     let mut text: ArrayVec<u8, INPUT> = ArrayVec::new();
     let _ = io::copy(&mut stdin, &mut text);
     cases::all(out, text.as_slice())?;
@@ -29,9 +30,6 @@ fn run(mut stdin: Stdin, out: Stdout) -> io::Result<()> {
     large::all(out)
 }
 
-fn main(rt: HostRuntime) -> ExitCode {
-    match run(rt.stdin(), rt.stdout()) {
-        Ok(()) => ExitCode::SUCCESS,
-        Err(_) => ExitCode::FAILURE,
-    }
+fn main(rt: HostRuntime) {
+    let _ = run(rt.stdin(), Out(rt.stdout()));
 }

@@ -1,7 +1,8 @@
 // A run, and what is printed of it. Before a run its buffer holds sevens.
 
+use crate::out::Out;
 use std::io;
-use std::io::{Print, Stdout, Write};
+use std::io::{Print, Write};
 
 // What each byte of a buffer holds before a run.
 pub const BEFORE: u8 = 7;
@@ -10,7 +11,7 @@ pub const BEFORE: u8 = 7;
 pub const SHORT: usize = 4096;
 
 // Runs the program on an input in a buffer of 4,096 bytes.
-pub fn first(out: Stdout, name: &[u8], input: &[u8]) -> io::Result<()> {
+pub fn first(out: Out, name: &[u8], input: &[u8]) -> io::Result<()> {
     let mut buffer = [BEFORE; SHORT];
     title(out, name)?;
     run(out, input, &mut buffer)
@@ -24,13 +25,13 @@ pub fn put_known(text: &mut impl Write) -> io::Result<()> {
 }
 
 // The name of a run.
-pub fn title(out: Stdout, name: &[u8]) -> io::Result<()> {
+pub fn title(out: Out, name: &[u8]) -> io::Result<()> {
     out.write_all(name)?;
     println!(out; ":")
 }
 
 // Runs the program in a buffer, and prints what it wrote.
-pub fn run(out: Stdout, input: &[u8], buffer: &mut [u8]) -> io::Result<()> {
+pub fn run(out: Out, input: &[u8], buffer: &mut [u8]) -> io::Result<()> {
     match console::run(input, buffer) {
         Ok(n) => text(out, buffer, n),
         Err(lack) => short(out, buffer, lack.needed),
@@ -38,20 +39,20 @@ pub fn run(out: Stdout, input: &[u8], buffer: &mut [u8]) -> io::Result<()> {
 }
 
 // The text, whole.
-fn text(out: Stdout, buffer: &[u8], n: usize) -> io::Result<()> {
+fn text(out: Out, buffer: &[u8], n: usize) -> io::Result<()> {
     let (text, rest) = buffer.split_at(n.min(buffer.len()));
     out.write_all(text)?;
     kept(out, rest)
 }
 
 // What a buffer lacks.
-pub fn short(out: Stdout, buffer: &[u8], n: usize) -> io::Result<()> {
+pub fn short(out: Out, buffer: &[u8], n: usize) -> io::Result<()> {
     println!(out; "the buffer is short: it needs {n} bytes")?;
     kept(out, buffer)
 }
 
 // Says so if a byte that must be as it was is not.
-pub fn kept(out: Stdout, rest: &[u8]) -> io::Result<()> {
+pub fn kept(out: Out, rest: &[u8]) -> io::Result<()> {
     if rest.iter().any(|byte| *byte != BEFORE) {
         println!(out; "a byte after the text was changed")?;
     }

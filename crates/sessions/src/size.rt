@@ -1,12 +1,13 @@
 // Buffers that hold what is printed, and that are short; and what is printed of a long text.
 
+use crate::out::Out;
 use crate::show;
 use crate::show::{BEFORE, SHORT};
 use std::io;
-use std::io::{Print, Stdout};
+use std::io::Print;
 
 // Runs inputs in buffers of their room, of one less, and of none.
-pub fn all(out: Stdout) -> io::Result<()> {
+pub fn all(out: Out) -> io::Result<()> {
     in_buffers(out, b"no input in its room", b"")?;
     in_buffers(
         out,
@@ -16,7 +17,7 @@ pub fn all(out: Stdout) -> io::Result<()> {
 }
 
 // Runs an input in these three buffers, which have at most 4,096 bytes.
-fn in_buffers(out: Stdout, name: &[u8], input: &[u8]) -> io::Result<()> {
+fn in_buffers(out: Out, name: &[u8], input: &[u8]) -> io::Result<()> {
     let needed = console::room(input.len());
     show::title(out, name)?;
     for size in [needed, needed.saturating_sub(1), 0] {
@@ -27,14 +28,14 @@ fn in_buffers(out: Stdout, name: &[u8], input: &[u8]) -> io::Result<()> {
 }
 
 // Runs an input in the largest buffer, and prints how long the text is, its sum and its last 60 bytes.
-pub fn summary(out: Stdout, name: &[u8], input: &[u8]) -> io::Result<()> {
+pub fn summary(out: Out, name: &[u8], input: &[u8]) -> io::Result<()> {
     let mut buffer = [BEFORE; console::MOST_ROOM];
     show::title(out, name)?;
     run(out, input, &mut buffer)
 }
 
 // Runs an input in a buffer, and prints a summary.
-fn run(out: Stdout, input: &[u8], buffer: &mut [u8]) -> io::Result<()> {
+fn run(out: Out, input: &[u8], buffer: &mut [u8]) -> io::Result<()> {
     match console::run(input, buffer) {
         Ok(n) => sum_of(out, input.len(), buffer, n),
         Err(lack) => show::short(out, buffer, lack.needed),
@@ -42,7 +43,7 @@ fn run(out: Stdout, input: &[u8], buffer: &mut [u8]) -> io::Result<()> {
 }
 
 // Prints the summary of a text: how long the input and the text are, its sum, its end.
-fn sum_of(out: Stdout, read: usize, buffer: &[u8], n: usize) -> io::Result<()> {
+fn sum_of(out: Out, read: usize, buffer: &[u8], n: usize) -> io::Result<()> {
     let (text, rest) = buffer.split_at(n.min(buffer.len()));
     println!(out;
         "{read} bytes read, {n} written, sum {}, the last:",
