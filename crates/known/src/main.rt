@@ -50,6 +50,7 @@ fn run(mut stdin: Stdin, out: Out) -> io::Result<()> {
     large::not_counted(out)
 }
 
+// Ends with status 0, whatever standard output takes.
 fn main(rt: HostRuntime) {
     let _ = run(rt.stdin(), Out(rt.stdout()));
 }

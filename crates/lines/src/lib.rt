@@ -1,5 +1,6 @@
 // The lines of a program's input (document 01, "The program"): their forms, the reader that takes them one by one, and the machine line, with which every input
-// begins. A program that reads such lines uses these and adds what it does with them. This crate is the inside of the programs, and no call of a user's.
+// begins. A program that reads such lines uses these and adds what it does with them. `Reader::new` asks for a position within the input; this crate is the inside
+// of the programs, and no call of a user's.
 
 #![tactic(auto)]
 

@@ -45,7 +45,8 @@ fn zeros<const N: usize>() -> [u16; N]
     [0; N]
 }
 
-// Lends the sheet, its own tables and the log to all that is held, and prints the log: the summary, or the disagreement.
+// Lends the sheet, its own tables and the log to all that is held, and prints the log: the summary, or the disagreement. Ends with status 0, whatever
+// standard output takes.
 fn main(rt: HostRuntime) {
     let mut sheet = zeros::<SHEET>();
     let mut own = zeros::<OWN>();
